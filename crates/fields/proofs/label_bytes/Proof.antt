@@ -1,0 +1,54 @@
+use Prim.Native.Nat.{_≤_, _-_}
+use native.Mathlib.Omega.{arith}
+use borrow.Author.Needs.{needs}
+use Rattle.rules.specs.Derived.{labelBytes}
+use Rattle.fields.proofs.Steps.{took-bits}
+use Rattle.rules.proofs.Laws.{LeftByBytes, left-by-bytes-all}
+use Rattle.fields.proofs.Loops.{byte-more, byte-last, byte-none}
+use Rattle.fields.proofs.label_bytes.Statement.{statement}
+use Rattle.fields.proofs.label_bytes.Tie as tie
+
+abbrev Inv-loop : tie.InvT-loop
+Inv-loop bytes t₀ n₀ t n = (n ≤ 4097) × LeftByBytes (labelBytes 4097 0) bytes t₀ (labelBytes (4097 - n) n) t
+
+abbrev μ-loop : tie.MeasureT-loop
+μ-loop bytes t₀ n₀ t n = 4097 - n
+
+loop-holds : tie.Need-loop-holds Inv-loop μ-loop
+loop-holds c = (omega arith, left-by-bytes-all (search needs))
+
+read-requires : tie.Need-read-requires Inv-loop μ-loop
+read-requires c κs = (c .before .loop .inv .1 .sound, omega arith)
+
+add-n : tie.Need-add-n Inv-loop μ-loop
+add-n c = omega arith
+
+returns : tie.Need-returns Inv-loop μ-loop
+returns c = took-bits (search byte-last) (omega arith)
+
+loop-less : tie.Need-loop-less Inv-loop μ-loop
+loop-less c = omega arith
+
+loop-again : tie.Need-loop-again Inv-loop μ-loop
+loop-again c = (omega arith, search byte-more)
+
+invalid-requires : tie.Need-invalid-requires Inv-loop μ-loop
+invalid-requires c κs = c .before .loop .inv .1 .sound
+
+returns-2 : tie.Need-returns-2 Inv-loop μ-loop
+returns-2 c = took-bits (search byte-none) (omega arith)
+
+pub label-bytes-spec : {M : Type 1} → statement M
+label-bytes-spec =
+    tie.close
+    (tie.spec
+    Inv-loop
+    μ-loop
+    loop-holds
+    read-requires
+    add-n
+    returns
+    loop-less
+    loop-again
+    invalid-requires
+    returns-2)

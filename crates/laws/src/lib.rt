@@ -1,0 +1,1 @@
+// Laws over every rule, proved once: they stand in specs/ and proofs/. There is no code here.

@@ -1,0 +1,5 @@
+pub mod Pick
+pub mod Words
+pub mod Bind
+pub mod Forward
+pub mod Laws

@@ -1,0 +1,109 @@
+-- The kinds of fields and questions, each written as the Rust's method of that name.
+use Prim.Native.Nat.{ℕ, zero, suc, _+_, _-_, _*_, _^_}
+use mathlib.Core.List.{List, [], _∷_}
+use mathlib.Core.Bool.{Bool, not, _&&_}
+use lib.Dec.{leb, eqb}
+use Rattle.rules.specs.declared.FieldValue.the-variants.{Flag, Number, Bits, Bytes}
+use Rattle.rules.specs.Rule.{Rule, done, ends, End, refused, stopped, _>>=_, _>>_, pick, position, end, bits, skip, setEnd, field}
+
+-- `take`
+unfoldable pub take : ℕ → ℕ → Rule ℕ
+take name w = do
+  start ← position
+  v ← bits w
+  field name start (Number v)
+  done v
+
+abbrev pub isOne : ℕ → Bool
+isOne v = not (eqb v 0)
+
+-- `flag`
+unfoldable pub flag : ℕ → Rule Bool
+flag name = do
+  start ← position
+  v ← bits 1
+  field name start (Flag (isOne v))
+  done (isOne v)
+
+-- a part of all ones, `(1 << width) - 1`
+abbrev pub isFull : ℕ → ℕ → Bool
+isFull v w = eqb v (2 ^ w - 1)
+
+-- the parts of an escaped number, added to `value`: one of all ones is followed by the next
+unfoldable pub parts : ℕ → List ℕ → Rule ℕ
+parts value [] = done value
+parts value (w ∷ ws) = do
+  v ← bits w
+  pick (isFull v w) (parts (value + v) ws) (done (value + v))
+
+-- `esc`: the whole is one field
+unfoldable pub escaped : ℕ → List ℕ → Rule ℕ
+escaped name widths = do
+  start ← position
+  v ← parts 0 widths
+  field name start (Number v)
+  done v
+
+-- `passive_bits`: a payload, of which 0 bits make no field
+unfoldable pub passiveBits : ℕ → ℕ → Rule (Unit {0})
+passiveBits name w =
+    pick (eqb w 0)
+    (done tt)
+    (do
+      start ← position
+      skip w
+      field name start (Bits w))
+
+-- the bytes of a label, of which `n` are read and at most `k` follow: how many there are with the zero byte
+unfoldable pub labelBytes : ℕ → ℕ → Rule ℕ
+labelBytes zero n = ends (refused 17)
+labelBytes (suc k) n = do
+  v ← bits 8
+  pick (eqb v 0) (done (n + 1)) (labelBytes k (n + 1))
+
+-- the loop in `metadata_global_parameter`
+unfoldable pub label : ℕ → Rule (Unit {0})
+label name = do
+  start ← position
+  n ← labelBytes 4097 0
+  field name start (Bytes n)
+
+-- `invalid`, `stop`
+abbrev pub invalid : ℕ → Rule (Unit {0})
+invalid number = ends (refused number)
+
+abbrev pub stop : ℕ → Rule (Unit {0})
+stop number = ends (stopped number)
+
+-- one of them, unless `b`
+unfoldable pub demand : Bool → End → Rule (Unit {0})
+demand b x = pick b (done tt) (ends x)
+
+-- `BitReader::remaining`
+unfoldable pub remaining : Rule ℕ
+remaining = do
+  e ← end
+  p ← position
+  done (e - p)
+
+-- `count`
+unfoldable pub count : ℕ → ℕ → Rule ℕ
+count n least = do
+  left ← remaining
+  demand (leb n 4096 && leb (n * least) left) (refused 6)
+  done n
+
+-- `drc_count`
+unfoldable pub drcCount : ℕ → ℕ → ℕ → Rule ℕ
+drcCount name w least = do
+  n ← take name w
+  count n least
+
+-- What every entry asks of an input of `size` bytes: 1; its own questions, of which `own` is the number of the first
+-- that is not met, or 0; and 3. The reading is then at `offset` of the input: `Parser::new`, `bits.skip(offset)`.
+unfoldable pub entry : ℕ → ℕ → ℕ → Rule (Unit {0})
+entry size own offset = do
+  demand (leb size 8388608) (refused 1)
+  demand (eqb own 0) (refused own)
+  setEnd (8 * size)
+  skip offset

@@ -1,0 +1,11 @@
+-- Name words: a template and up to four indices (docs/FIELDS.md). A template is a block, whose text has the first two
+-- indices, and a leaf of it, whose text has the other two.
+use Prim.Native.Nat.{ℕ, _+_, _*_, _^_}
+
+-- what the names of a block begin with: a reading is handed this word and adds its leaves
+abbrev pub prefix : ℕ → ℕ → ℕ → ℕ
+prefix block i j = 256 * block + 2 ^ 12 * i + 2 ^ 25 * j
+
+-- a leaf of it
+abbrev pub named : ℕ → ℕ → ℕ → ℕ → ℕ
+named p leaf k m = p + leaf + 2 ^ 38 * k + 2 ^ 51 * m
