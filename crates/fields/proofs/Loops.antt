@@ -14,7 +14,8 @@ use Rattle.rules.specs.Rule.{Rule, done, bits, pick}
 use Rattle.rules.specs.Derived.{isFull, parts, labelBytes, invalid}
 use Rattle.rules.specs.Met.{MetByBytes, MetAlone}
 use Rattle.fields.specs.Taken.{Widths}
-use Rattle.rules.proofs.Laws.{LeftByBytes, left-by-bytes-step, left-by-bytes-end, last, ended-as}
+use Rattle.rules.proofs.Laws.{last, ended-as}
+use Rattle.rules.proofs.Left.{LeftByBytes, left-by-bytes-step, left-by-bytes-end}
 use Rattle.fields.proofs.Steps.{for-words}
 
 -- a value at the end of a loop
@@ -48,7 +49,7 @@ module _ {r : Rule ℕ} {bs : List ℕ} {s t : State} (widths : List ℕ) (value
   part-none h = let k : length widths ≤ i = omega arith in ended-with (rw (drop-of-length-le widths k) at l)
 
 module _ {r : Rule ℕ} {bs : List ℕ} {s t u : State} (n : ℕ) (l : LeftByBytes r bs s (labelBytes (4097 - n) n) t) where
-  module _ {b : ℕ} (h : n ≤ 4096) (d : MetByBytes (bits 8) bs t b u) where
+  module _ {b : ℕ} (h : n < 4097) (d : MetByBytes (bits 8) bs t b u) where
     pub byte-more : (b ≡ 0 → ⊥) → LeftByBytes r bs s (labelBytes (4097 - (n + 1)) (n + 1)) u
     unfolding labelBytes
     byte-more q =

@@ -250,13 +250,16 @@ fn label_bytes(bytes: &[u8], s: State) -> Taken
 {
     let mut t = s;
     let mut n: u64 = 0;
-    while n <= State::COUNT {
+    while n < State::LABEL {
         let b = read(bytes, t, 8);
         t = b.state;
-        n += 1;
         if b.value == 0 {
-            return Taken { state: t, value: n };
+            return Taken {
+                state: t,
+                value: n + 1,
+            };
         }
+        n += 1;
     }
     let u = invalid(t, 17);
     Taken { state: u, value: 0 }

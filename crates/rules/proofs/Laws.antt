@@ -1,5 +1,5 @@
 -- How code over a state is proved from what its calls ensure.
-use Prim.Native.Nat.{ℕ, _+_, _-_}
+use Prim.Native.Nat.{ℕ, _+_, _-_, _≤_}
 use mathlib.Core.Path.{_≡_, refl, ap, sym, _∙_}
 use mathlib.Core.List.{List, [], _∷_}
 use mathlib.Core.Bool.{Bool, true, false}
@@ -22,12 +22,28 @@ use Rattle.rules.proofs.Bind.{then, bind}
 pub never : {P : Type 0} {b : Bool} → b ≡ true → b ≡ false → P
 never p q = let z : _≡_ {A = ℕ} 0 1 = cc in absurd (omega arith)
 
-module _ {A B : Type 0} (k : A → ℕ → ℕ → ℕ → Reading B) {rec : Bool} {n : ℕ} {ws : List ℕ} {a : A} {t : State} {vs : List ℕ} {b : B} where
+-- the result of a state that has read all so far, and of one that has ended
+result-read : {A : Type 0} (o : Outcome) (a : A) → isRead o ≡ true → resultOf o a ≡ read a
+result-read Read a h = refl
+result-read (Refused n) a h = never h refl
+result-read (Stopped n) a h = never h refl
+
+abbrev endOf : Outcome → End
+endOf Read = refused 0
+endOf (Refused n) = refused n
+endOf (Stopped n) = stopped n
+
+result-ended : {A : Type 0} (o : Outcome) (a : A) → isRead o ≡ false → resultOf o a ≡ ended (endOf o)
+result-ended Read a h = never refl h
+result-ended (Refused n) a h = refl
+result-ended (Stopped n) a h = refl
+
+module _ {A B : Type 0} (k : A → ℕ → ℕ → ℕ → Reading B) {rec : Bool} {n : ℕ} {ws : List ℕ} {a : A} {t : State} {vs : List ℕ} {b : B} (x : Reading A) (g : Gives x rec n ws a t vs) where
   -- a reading that goes on
-  gives-on : {u : State} {us : List ℕ} (x : Reading A) → Gives x rec n ws a t vs → t .outcome ≡ Read →
+  gives-on : {u : State} {us : List ℕ} → isRead (t .outcome) ≡ true →
       Gives (k a (t .position) (t .end) (t .fields)) rec (t .fields) vs b u us → Gives (then k n x) rec n ws b u us
-  gives-on x g q h =
-      let e : x .result ≡ read a = g .result ∙ ap (λ (o : Outcome). resultOf o a) q in
+  gives-on q h =
+      let e : x .result ≡ read a = g .result ∙ result-read (t .outcome) a q in
       let d = rw (g .position, g .end, g .fields, g .words) at h in
       rw e
       (record {
@@ -39,32 +55,26 @@ module _ {A B : Type 0} (k : A → ℕ → ℕ → ℕ → Reading B) {rec : Boo
       })
 
   -- a reading that has ended
-  gives-off : (x : Reading A) → Gives x rec n ws a t vs → (z : End) → resultOf (t .outcome) a ≡ ended z → resultOf (t .outcome) b ≡ ended z →
-      Gives (then k n x) rec n ws b t vs
-  gives-off x g z q q′ =
-      let e : x .result ≡ ended z = g .result ∙ q in
-      rw e (record { result = sym q′; position = g .position; end = g .end; fields = g .fields; words = g .words })
+  gives-off : isRead (t .outcome) ≡ false → Gives (then k n x) rec n ws b t vs
+  gives-off q =
+      let e : x .result ≡ ended (endOf (t .outcome)) = g .result ∙ result-ended (t .outcome) a q in
+      rw e (record { result = sym (result-ended (t .outcome) b q); position = g .position; end = g .end; fields = g .fields; words = g .words })
 
 module _ {A B : Type 0} {r : Rule A} (f : A → Rule B) {bs ws : List ℕ} {s : State} {a : A} {t : State} {vs : List ℕ} {b : B} {u : State} {us : List ℕ} where
-  went : Met r bs ws s a t vs → Met (f a) bs vs t b u us → isRead (s .outcome) ≡ true → (o : Outcome) → t .outcome ≡ o →
+  went : Met r bs ws s a t vs → Met (f a) bs vs t b u us → isRead (s .outcome) ≡ true → (on : Bool) → isRead (t .outcome) ≡ on →
       Gives (readingAt bs ws s (r >>= f)) (s .recording) (s .fields) ws b u us
-  went x y h Read q =
+  went x y h true q =
       let l : length vs ≡ length ws = ap length (x .going h .words) ∙ recorded-length (s .recording) ws (s .fields) _ in
       rw (bind _ r f (s .position) (s .end) (s .fields))
-      (gives-on (λ a. reading _ (f a)) _ (x .going h) q (rw (l, x .recording) at (y .going (ap isRead q))))
-  went x y h (Refused n) q =
-      rw (bind _ r f (s .position) (s .end) (s .fields), y .over (ap isRead q), y .still (ap isRead q))
-      (gives-off _ _ (x .going h) (refused n) (ap (λ (o : Outcome). resultOf o a) q) (ap (λ (o : Outcome). resultOf o b) q))
-  went x y h (Stopped n) q =
-      rw (bind _ r f (s .position) (s .end) (s .fields), y .over (ap isRead q), y .still (ap isRead q))
-      (gives-off _ _ (x .going h) (stopped n) (ap (λ (o : Outcome). resultOf o a) q) (ap (λ (o : Outcome). resultOf o b) q))
+      (gives-on (λ a. reading _ (f a)) _ (x .going h) q (rw (l, x .recording) at (y .going q)))
+  went x y h false q = rw (bind _ r f (s .position) (s .end) (s .fields), y .over q, y .still q) (gives-off _ _ (x .going h) q)
 
   -- one call after another
   pub first : Met r bs ws s a t vs → Met (f a) bs vs t b u us → Met (r >>= f) bs ws s b u us
   first x y = record {
     sound = y .sound;
     recording = y .recording ∙ x .recording;
-    going = λ h. went x y h (t .outcome) refl;
+    going = λ h. went x y h (isRead (t .outcome)) refl;
     over = λ h. let e = x .over h in y .over (rw e h) ∙ e;
     still = λ h. let e = x .over h in y .still (rw e h) ∙ x .still h;
   }
@@ -89,6 +99,11 @@ module _ {A : Type 0} {r : Rule A} {bs ws : List ℕ} {s : State} {a : A} {t : S
   pub alone : MetAlone r s a t → Met r bs ws s a t ws
   alone x = x .met bs ws
 
+-- a reading that begins is sound
+pub fresh-sound : {s : State} {recording : Bool} {n : ℕ} → n ≤ 16384 →
+    s ≡ record { position = 0; end = 0; fields = n; recording = recording; outcome = Read } → Sound s
+fresh-sound l e = rw e (record { position = omega arith; end = omega arith; fields = l })
+
 -- a state that has ended, and one that has not
 module _ {A : Type 0} (r : Rule A) {bs ws : List ℕ} {s : State} {a : A} where
   pub off : Sound s → isRead (s .outcome) ≡ false → Met r bs ws s a s ws
@@ -97,11 +112,6 @@ module _ {A : Type 0} (r : Rule A) {bs ws : List ℕ} {s : State} {a : A} where
   pub on : {t : State} {vs : List ℕ} → Sound t → t .recording ≡ s .recording → isRead (s .outcome) ≡ true →
       Gives (readingAt bs ws s r) (s .recording) (s .fields) ws a t vs → Met r bs ws s a t vs
   on q c h g = record { sound = q; recording = c; going = λ _. g; over = λ e. never h e; still = λ e. never h e }
-
-result-read : {A : Type 0} (o : Outcome) (a : A) → isRead o ≡ true → resultOf o a ≡ read a
-result-read Read a h = refl
-result-read (Refused n) a h = never h refl
-result-read (Stopped n) a h = never h refl
 
 -- what a reading that ends at once gives; one that goes on; one that makes a field
 module _ {A : Type 0} (rec : Bool) (ws : List ℕ) (n : ℕ) (s : State) (a : A) (x : Reading A) where
@@ -169,18 +179,6 @@ module _ {A : Type 0} (r r′ : Rule A) {bs ws : List ℕ} {s : State} {a : A} {
   pub if-false-by : {d : Bool} → d ≡ b → d ≡ false → Met r′ bs ws s a t vs → Met (pick b r r′) bs ws s a t vs
   if-false-by e q x = rw (← e, q) x
 
--- How a loop is proved: what is left of the rule, from where the loop stands.
-pub record Left {A : Type 0} (r : Rule A) (bs ws : List ℕ) (s : State) (q : Rule A) (t : State) (vs : List ℕ) : Type 0 where
-  pub sound : Sound t
-  pub rest : {b : A} {u : State} {us : List ℕ} → Met q bs vs t b u us → Met r bs ws s b u us
-
-pub left-all : {A : Type 0} {r : Rule A} {bs ws : List ℕ} {s : State} → Sound s → Left r bs ws s r s ws
-left-all q = record { sound = q; rest = λ x. x }
-
-pub left-step : {A B : Type 0} {r : Rule B} {q : Rule A} {bs ws vs us : List ℕ} {s t u : State} {a : A} (f : A → Rule B) →
-    Left r bs ws s (q >>= f) t vs → Met q bs vs t a u us → Left r bs ws s (f a) u us
-left-step f l x = record { sound = x .sound; rest = λ y. l .rest (first f x y) }
-
 -- an end is an end, whatever was to come
 pub ended-as : {A B : Type 0} {x : End} {bs ws vs : List ℕ} {s t : State} {a : A} {b : B} → Met {A = A} (ends x) bs ws s a t vs → Met {A = B} (ends x) bs ws s b t vs
 unfolding reading
@@ -209,21 +207,6 @@ module _ {B : Type 0} (x : End) (f : Unit {0} → Rule B) {bs ws : List ℕ} {s 
   pub demand-broken : ok ≡ false → Met {A = Unit {0}} (ends x) bs ws s tt t vs → Met (demand ok x >>= f) bs ws s b t vs
   unfolding demand _>>=_
   demand-broken q y = rw q (ended-as y)
-
--- the same for a loop that is lent the bytes alone
-pub record LeftByBytes {A : Type 0} (r : Rule A) (bs : List ℕ) (s : State) (q : Rule A) (t : State) : Type 0 where
-  pub sound : Sound t
-  pub left : (ws : List ℕ) → Left r bs ws s q t ws
-
-pub left-by-bytes-all : {A : Type 0} {r : Rule A} {bs : List ℕ} {s : State} → Sound s → LeftByBytes r bs s r s
-left-by-bytes-all q = record { sound = q; left = λ ws. left-all q }
-
-pub left-by-bytes-step : {A B : Type 0} {r : Rule B} {q : Rule A} {bs : List ℕ} {s t u : State} {a : A} (f : A → Rule B) →
-    LeftByBytes r bs s (q >>= f) t → MetByBytes q bs t a u → LeftByBytes r bs s (f a) u
-left-by-bytes-step f l x = record { sound = x .sound; left = λ ws. left-step f (l .left ws) (x .met ws) }
-
-pub left-by-bytes-end : {A : Type 0} {r q : Rule A} {bs : List ℕ} {s t u : State} {a : A} → LeftByBytes r bs s q t → MetByBytes q bs t a u → MetByBytes r bs s a u
-left-by-bytes-end l x = record { sound = x .sound; met = λ ws. l .left ws .rest (x .met ws) }
 
 pub ruleset readings =
     (first, first-by-bytes, first-by-words, first-alone, first-position, first-remaining, by-bytes, by-words, alone, last, last-as, if-true, if-false, if-true-by, if-false-by, eq-eqb, ne-eqb)

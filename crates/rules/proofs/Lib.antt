@@ -3,3 +3,4 @@ pub mod Words
 pub mod Bind
 pub mod Forward
 pub mod Laws
+pub mod Left

@@ -60,6 +60,9 @@ impl State {
     // The greatest count of things declared.
     pub const COUNT: u64 = 4096;
 
+    // The greatest number of bytes of a label, its zero byte included.
+    pub const LABEL: u64 = 4097;
+
     // A reading of nothing yet, with `fields` counted before it: `Parser::new`.
     pub fn fresh(recording: bool, fields: usize) -> State
         ensures { λ r. ⌜ r ≡ record { position = 0; end = 0; fields = fields; recording = recording; outcome = Outcome.Read } ⌝ }

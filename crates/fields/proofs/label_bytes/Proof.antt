@@ -2,12 +2,13 @@ use Prim.Native.Nat.{_≤_, _-_}
 use native.Mathlib.Omega.{arith}
 use borrow.Author.Needs.{needs}
 use Rattle.rules.specs.Derived.{labelBytes}
+use Rattle.rules.proofs.Left.{LeftByBytes, left-by-bytes-all}
 use Rattle.fields.proofs.Steps.{took-bits}
-use Rattle.rules.proofs.Laws.{LeftByBytes, left-by-bytes-all}
 use Rattle.fields.proofs.Loops.{byte-more, byte-last, byte-none}
 use Rattle.fields.proofs.label_bytes.Statement.{statement}
 use Rattle.fields.proofs.label_bytes.Tie as tie
 
+-- `n` bytes are passed, none of them zero, and the rest of the rule is left
 abbrev Inv-loop : tie.InvT-loop
 Inv-loop bytes t₀ n₀ t n = (n ≤ 4097) × LeftByBytes (labelBytes 4097 0) bytes t₀ (labelBytes (4097 - n) n) t
 
@@ -20,11 +21,14 @@ loop-holds c = (omega arith, left-by-bytes-all (search needs))
 read-requires : tie.Need-read-requires Inv-loop μ-loop
 read-requires c κs = (c .before .loop .inv .1 .sound, omega arith)
 
-add-n : tie.Need-add-n Inv-loop μ-loop
-add-n c = omega arith
+add-t8 : tie.Need-add-t8 Inv-loop μ-loop
+add-t8 c = omega arith
 
 returns : tie.Need-returns Inv-loop μ-loop
 returns c = took-bits (search byte-last) (omega arith)
+
+add-n : tie.Need-add-n Inv-loop μ-loop
+add-n c = omega arith
 
 loop-less : tie.Need-loop-less Inv-loop μ-loop
 loop-less c = omega arith
@@ -46,8 +50,9 @@ label-bytes-spec =
     μ-loop
     loop-holds
     read-requires
-    add-n
+    add-t8
     returns
+    add-n
     loop-less
     loop-again
     invalid-requires

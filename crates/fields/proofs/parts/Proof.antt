@@ -6,10 +6,11 @@ use lib.ListN.{length, drop}
 use Rattle.rules.specs.Derived.{parts}
 use Rattle.fields.proofs.Steps.{took-bits}
 use Rattle.fields.proofs.Loops.{width-small, part-small, part-more, part-last, part-none}
-use Rattle.rules.proofs.Laws.{LeftByBytes, left-by-bytes-all}
+use Rattle.rules.proofs.Left.{LeftByBytes, left-by-bytes-all}
 use Rattle.fields.proofs.parts.Statement.{statement}
 use Rattle.fields.proofs.parts.Tie as tie
 
+-- the parts passed are in the value, and those from `i` on are left to be read
 abbrev Inv-loop : tie.InvT-loop
 Inv-loop bytes widths t₀ value₀ i₀ t value i = (i ≤ 3) × (value ≤ i * 2 ^ 20) × LeftByBytes (parts 0 widths) bytes t₀ (parts value (drop i widths)) t
 

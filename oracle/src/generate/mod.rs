@@ -1,0 +1,147 @@
+//! Requests that follow from a seed.
+mod batch;
+mod boundaries;
+mod compression;
+mod draft;
+mod labels;
+mod limits;
+mod metadata;
+mod noise;
+mod positions;
+mod renderer;
+mod sample;
+mod scripts;
+mod short;
+#[cfg(test)]
+mod tests;
+mod validation;
+mod variants;
+
+use crate::rng::Rng;
+use batch::Batch;
+use metadata::Metadata;
+use std::io::{self, Write};
+use variants::Good;
+
+/// The most fields of an input that is asked for with every cut or room.
+const SMALL: usize = 60;
+
+type Part = fn(&mut Batch<'_>);
+
+/// Asked once.
+const FIXED: [Part; 7] = [
+    short::short,
+    boundaries::boundaries,
+    validation::small,
+    limits::limits,
+    limits::full_buffers,
+    limits::every_take,
+    labels::labels,
+];
+
+/// Asked as often as the scale says, each time with other choices.
+const RANDOM: [Part; 6] = [
+    noise::noise,
+    scenes_and_updates,
+    each_kind,
+    configurations,
+    validation::random,
+    scripts::scripts,
+];
+
+pub fn generate(seed: u64, scale: u64, out: &mut impl Write) -> io::Result<()> {
+    let mut rng = Rng::new(seed);
+    write_parts(&FIXED, &mut rng, out)?;
+    (0..scale).try_for_each(|_| write_parts(&RANDOM, &mut rng, out))
+}
+
+/// The requests of the sample that is stored in the repository.
+pub fn sample(seed: u64, out: &mut impl Write) -> io::Result<()> {
+    write_parts(&[sample::sample], &mut Rng::new(seed), out)
+}
+
+fn write_parts(parts: &[Part], rng: &mut Rng, out: &mut impl Write) -> io::Result<()> {
+    for part in parts {
+        let mut batch = Batch::new(rng);
+        part(&mut batch);
+        for request in batch.requests {
+            writeln!(out, "{request}")?;
+        }
+    }
+    Ok(())
+}
+
+/// Scenes, updates and positions called alone.
+fn scenes_and_updates(batch: &mut Batch<'_>) {
+    for draft in [positions::scene, positions::update, positions::alone] {
+        for _ in 0..1_800 {
+            let good = draft(batch.rng);
+            batch.around(&good);
+        }
+        for _ in 0..60 {
+            let good = small(batch.rng, draft);
+            batch.every_cut(&good);
+            batch.every_offset(&good);
+            batch.rooms_near(&good);
+        }
+        for _ in 0..20 {
+            let good = small(batch.rng, draft);
+            batch.every_room(&good);
+        }
+    }
+}
+
+/// A draft of few fields, so that all its cuts and rooms can be asked for.
+fn small(rng: &mut Rng, draft: fn(&mut Rng) -> Good) -> Good {
+    loop {
+        let good = draft(rng);
+        if good.fields().len() <= SMALL {
+            return good;
+        }
+    }
+}
+
+/// Metadata of mixed parts.
+fn configurations(batch: &mut Batch<'_>) {
+    for _ in 0..5_000 {
+        let good = metadata::some(batch.rng);
+        batch.around(&good);
+    }
+    for _ in 0..40 {
+        let good = small(batch.rng, metadata::some);
+        batch.every_cut(&good);
+        batch.every_room(&good);
+    }
+}
+
+/// Metadata of one part, for each kind of parameter, compression and group.
+fn each_kind(batch: &mut Batch<'_>) {
+    for _ in 0..3 {
+        for good in one_of_each(batch.rng) {
+            batch.every_cut(&good);
+            batch.every_offset(&good);
+            batch.rooms_near(&good);
+            batch.around(&good);
+        }
+    }
+}
+
+fn one_of_each(rng: &mut Rng) -> Vec<Good> {
+    let mut list = Vec::new();
+    for kind in 0..=metadata::KINDS {
+        let parameter = metadata::parameter(rng, kind);
+        list.push(Metadata::with_parameters(vec![parameter]));
+    }
+    let mut rendered = renderer::one_of_each_type(rng);
+    rendered.extend((0..=renderer::KINDS).map(|kind| renderer::parameter(rng, kind)));
+    for parameter in rendered {
+        list.push(Metadata::with_renderer(rng, &[parameter]));
+    }
+    for kind in 0..8 {
+        list.push(Metadata::with_parameters(vec![metadata::hrtf(rng, kind)]));
+        list.push(Metadata::with_compression(compression::section(rng, kind)));
+        let groups = [metadata::component_group(rng, kind), metadata::group(rng)];
+        list.extend(groups.map(|group| Metadata::with_groups(vec![group])));
+    }
+    list.iter().map(|metadata| metadata.good(rng)).collect()
+}
