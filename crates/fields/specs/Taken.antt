@@ -1,10 +1,12 @@
 -- What a function that reads a number promises beside its rule: how large the number is, and that it goes forward.
 use Prim.Native.Nat.{ℕ, _≤_, _<_}
+use mathlib.Core.Path.{_≡_}
 use mathlib.Core.List.{List}
 use lib.ListN.{getD}
 use Rattle.rules.specs.declared.State.{State}
-use Rattle.rules.specs.Rule.{Rule}
-use Rattle.rules.specs.Met.{Met, MetByBytes, MetAlone}
+use Rattle.rules.specs.declared.FieldValue.the-variants.{Number}
+use Rattle.rules.specs.Rule.{Rule, field}
+use Rattle.rules.specs.Met.{Met, MetByBytes, MetByWords, MetAlone}
 
 pub record Took (r : Rule ℕ) (m : ℕ) (bs ws : List ℕ) (s : State) (a : ℕ) (t : State) (vs : List ℕ) : Type 0 where
   pub met : Met r bs ws s a t vs
@@ -15,6 +17,11 @@ pub record TookBits (r : Rule ℕ) (m : ℕ) (bs : List ℕ) (s : State) (a : �
   pub met : MetByBytes r bs s a t
   pub small : a < m
   pub onward : s .position ≤ t .position
+
+-- the field of a number `v`, which is handed on
+pub record Numbered (name start v : ℕ) (ws : List ℕ) (s : State) (a : ℕ) (t : State) (vs : List ℕ) : Type 0 where
+  pub met : MetByWords (field name start (Number v)) ws s tt t vs
+  pub same : a ≡ v
 
 pub record Skipped (r : Rule (Unit {0})) (s t : State) : Type 0 where
   pub met : MetAlone r s tt t

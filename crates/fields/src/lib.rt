@@ -15,7 +15,7 @@ ghost use Rattle.rules.specs.Rule.{refused, bits, skip, setEnd, field};
 ghost use Rattle.rules.specs.Derived.{take, flag, isFull, parts, escaped, passiveBits, labelBytes, label, invalid, stop, demand, count, drcCount, entry};
 ghost use Rattle.rules.specs.Words.{wordsOf};
 ghost use Rattle.rules.specs.Met.{Met, MetByBytes, MetByWords, MetAlone, Sound};
-ghost use Rattle.fields.specs.Taken.{Took, TookBits, Skipped, Counted, Widths};
+ghost use Rattle.fields.specs.Taken.{Took, TookBits, Numbered, Skipped, Counted, Widths};
 
 // A number that was read, and the reading after it. The number is 0 if the reading has ended.
 pub struct Taken {
@@ -158,6 +158,20 @@ fn field(words: &mut [u64], s: State, name: u64, start: usize, value: FieldValue
     t
 }
 
+// A number that was read from `start` on, as a field.
+fn number(words: &mut [u64], v: Taken, name: u64, start: usize) -> Taken
+    requires { ⌜ Sound (v .state) ⌝ }
+    requires { ⌜ start ≤ v .state .position ⌝ }
+    ensures { λ r. ⌜ Numbered name start (v .value) (now (words .entry)) (v .state) (r .value) (r .state) (now (words .exit)) ⌝ }
+{
+    let t = v.state;
+    let u = field(words, t, name, start, FieldValue::Number(v.value));
+    Taken {
+        state: u,
+        value: v.value,
+    }
+}
+
 // A number of `width` bits.
 pub fn take(bytes: &[u8], words: &mut [u64], s: State, name: u64, width: usize) -> Taken
     requires { ⌜ Sound s ⌝ }
@@ -165,12 +179,7 @@ pub fn take(bytes: &[u8], words: &mut [u64], s: State, name: u64, width: usize) 
     ensures { λ r. ⌜ Took (take name width) (2 ^ width) (now (bytes .entry)) (now (words .entry)) s (r .value) (r .state) (now (words .exit)) ⌝ }
 {
     let v = read(bytes, s, width);
-    let t = v.state;
-    let u = field(words, t, name, s.position, FieldValue::Number(v.value));
-    Taken {
-        state: u,
-        value: v.value,
-    }
+    number(words, v, name, s.position)
 }
 
 // A flag.
@@ -223,12 +232,7 @@ pub fn escaped(bytes: &[u8], words: &mut [u64], s: State, name: u64, widths: [us
     ensures { λ r. ⌜ Took (escaped name widths) (2 ^ 22) (now (bytes .entry)) (now (words .entry)) s (r .value) (r .state) (now (words .exit)) ⌝ }
 {
     let v = parts(bytes, s, widths);
-    let t = v.state;
-    let u = field(words, t, name, s.position, FieldValue::Number(v.value));
-    Taken {
-        state: u,
-        value: v.value,
-    }
+    number(words, v, name, s.position)
 }
 
 // A payload of `width` bits, passed over at once.

@@ -43,6 +43,7 @@ pub fn boundaries(batch: &mut Batch<'_>) {
     group_counts(batch);
     headphones(batch);
     matrices(batch);
+    radiations(batch);
     lzw_windows(batch);
     empty_windows(batch);
     tables(batch);
@@ -239,6 +240,28 @@ fn matrices(batch: &mut Batch<'_>) {
             batch.cut_at(&good, good.bits.len() - 5);
         }
     }
+}
+
+/// Bands and sizes in all parts of their escaped numbers, up to the greatest count.
+fn radiations(batch: &mut Batch<'_>) {
+    for count in [1, 7, 8, 9, 70, 71, 72, 300, 582] {
+        let bands = renderer::bands(batch.rng, count);
+        rendered(batch, bands);
+        let many = renderer::sizes(batch.rng, &vec![1; count as usize]);
+        rendered(batch, many);
+    }
+    for size in [1, 63, 64, 65, 573, 574, 575, 576, 577, 1_000, 4_670] {
+        let large = renderer::sizes(batch.rng, &[1, size]);
+        rendered(batch, large);
+    }
+}
+
+/// A configuration with just this renderer parameter, whole and a little too short.
+fn rendered(batch: &mut Batch<'_>, parameter: Bits) {
+    let good = Metadata::with_renderer(batch.rng, &[parameter]).good(batch.rng);
+    batch.somewhere(&good);
+    batch.cut_at(&good, good.bits.len());
+    batch.cut_at(&good, good.bits.len() - 1);
 }
 
 fn lzw_windows(batch: &mut Batch<'_>) {

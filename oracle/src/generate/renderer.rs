@@ -14,6 +14,9 @@ const REVERB: u64 = 9;
 const RADIATION: u64 = 11;
 const MATRIX: u64 = 22;
 
+/// The widths of the counts of bands and sizes.
+const COUNT: [usize; 3] = [3, 6, 9];
+
 /// A renderer parameter: its kind and its fields.
 pub fn parameter(rng: &mut Rng, kind: u64) -> Bits {
     drafted(rng, |d| {
@@ -248,7 +251,7 @@ fn write_radiation_of(d: &mut Draft<'_>, kind: u64) {
             d.any(10);
         }
         3 => write_pattern(d),
-        4 => write_sizes(d),
+        4 => write_some_sizes(d),
         _ => {}
     }
 }
@@ -267,7 +270,7 @@ fn write_pattern_of(d: &mut Draft<'_>, precision: u64, pattern: u64) {
         0 => {}
         1 | 2 => {
             let bands = d.rng.pick(&[1, 1, 2, 3, 8, 9]);
-            d.esc(bands - 1, [3, 6, 9]);
+            d.esc(bands - 1, COUNT);
             for _ in 0..bands {
                 write_band(d, pattern, width);
             }
@@ -296,14 +299,40 @@ fn write_band(d: &mut Draft<'_>, pattern: u64, width: usize) {
     }
 }
 
-fn write_sizes(d: &mut Draft<'_>) {
+fn write_some_sizes(d: &mut Draft<'_>) {
     let count = d.rng.pick(&[1, 1, 2, 3, 8]);
-    d.esc(count - 1, [3, 6, 9]);
-    let mut entries = 0;
-    for _ in 0..count {
-        let size = d.rng.pick(&[1, 1, 2, 3, 64]);
+    let sizes: Vec<u64> = (0..count).map(|_| d.rng.pick(&[1, 1, 2, 3, 64])).collect();
+    write_sizes(d, &sizes);
+}
+
+fn write_sizes(d: &mut Draft<'_>, sizes: &[u64]) {
+    d.esc(sizes.len() as u64 - 1, COUNT);
+    for size in sizes {
         d.esc(size - 1, [6, 9, 12]);
-        entries += size as usize;
     }
-    d.payload(32 * entries);
+    d.payload(32 * sizes.iter().sum::<u64>() as usize);
+}
+
+/// A radiation of so many bands of the fewest bits.
+pub fn bands(rng: &mut Rng, count: u64) -> Bits {
+    drafted(rng, |d| {
+        d.esc(RADIATION, ESC);
+        d.put(3, 3);
+        d.put(0, 2);
+        d.put(1, 5);
+        d.esc(count - 1, COUNT);
+        for _ in 0..count {
+            d.flag(true);
+            d.put(0, 10);
+        }
+    })
+}
+
+/// A radiation with coefficients of these sizes.
+pub fn sizes(rng: &mut Rng, sizes: &[u64]) -> Bits {
+    drafted(rng, |d| {
+        d.esc(RADIATION, ESC);
+        d.put(4, 3);
+        write_sizes(d, sizes);
+    })
 }

@@ -112,15 +112,15 @@ fn lines_can_be_read_back() {
     }
 }
 
+/// The records of the sample with seed 1.
+fn sample() -> Vec<Vec<u8>> {
+    let stored = |request| record(request).expect("an answer").expect("a script");
+    requests(super::sample::sample).iter().map(stored).collect()
+}
+
 #[test]
 fn sample_is_bounded() {
-    let requests = requests(super::sample::sample);
-    let size = |request| record(request).expect("an answer").expect("a script").len();
-    let total: usize = requests.iter().map(size).sum();
-    assert!(
-        (2_000..=4_000).contains(&requests.len()),
-        "{}",
-        requests.len()
-    );
-    assert!(total <= 400_000, "{total}");
+    let records = sample();
+    assert!((2_000..=4_000).contains(&records.len()));
+    assert!(records.concat().len() <= 400_000);
 }

@@ -7,8 +7,8 @@ use Rattle.fields.proofs.escaped.Tie as tie
 parts-requires : tie.Need-parts-requires
 parts-requires c κs = search needs
 
-field-requires : tie.Need-field-requires
-field-requires c κs = search needs
+number-requires : tie.Need-number-requires
+number-requires c κs = search needs
 
 same-length : tie.Need-same-length
 same-length c = search needs
@@ -18,4 +18,4 @@ unfolding escaped
 returns c = record { met = search readings depth 14; small = search needs }
 
 pub escaped-spec : {M : Type 1} → statement M
-escaped-spec = tie.close (tie.spec parts-requires field-requires same-length returns)
+escaped-spec = tie.close (tie.spec parts-requires number-requires same-length returns)
