@@ -17,13 +17,13 @@ ghost use Rattle.rules.specs.Words.{wordsOf};
 ghost use Rattle.rules.specs.Met.{Met, MetByBytes, MetByWords, MetAlone, Sound};
 ghost use Rattle.fields.specs.Taken.{Took, TookBits, Numbered, Skipped, Counted, Widths};
 
-// A number that was read, and the reading after it. The number is 0 if the reading has ended.
+// A number that was read, and the reading after it. If the reading has ended, the number says nothing.
 pub struct Taken {
     pub state: State,
     pub value: u64,
 }
 
-// A flag that was read, and the reading after it.
+// The same with a flag.
 pub struct Flagged {
     pub state: State,
     pub value: bool,

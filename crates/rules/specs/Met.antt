@@ -29,6 +29,7 @@ abbrev pub readingAt : {A : Type 0} → List ℕ → List ℕ → State → Rule
 readingAt bs ws s r =
     reading (record { bytes = bs; recording = s .recording; room = length ws }) r (s .position) (s .end) (s .fields)
 
+-- The promise of every function that reads by a rule.
 pub record Met {A : Type 0} (r : Rule A) (bs ws : List ℕ) (s : State) (a : A) (t : State) (vs : List ℕ) : Type 0 where
   pub sound : Sound t
   pub recording : t .recording ≡ s .recording

@@ -27,6 +27,7 @@ pub record Input : Type 0 where
   pub recording : Bool
   pub room : ℕ
 
+-- a reading that ends where it stands, and one with a field in front
 abbrev pub endedAt : {A : Type 0} → End → ℕ → ℕ → Reading A
 endedAt x p e = record { result = ended x; position = p; end = e; fields = [] }
 
@@ -41,6 +42,7 @@ hasRoom i n = not (i .recording) || leb (5 * n + 5) (i .room)
 abbrev pub inside : Input → ℕ → ℕ → Bool
 inside i p x = leb p x && leb x (8 * length (i .bytes))
 
+-- at the position `p`, up to the end `e`, with `n` fields counted: questions 3, 4 and 5 are asked here
 unfoldable pub reading : {A : Type 0} → Input → Rule A → ℕ → ℕ → ℕ → Reading A
 reading i (done a) p e n = record { result = read a; position = p; end = e; fields = [] }
 reading i (ends x) p e n = endedAt x p e

@@ -8,6 +8,7 @@ pub data End : Type 0 where
   refused : ℕ → End
   stopped : ℕ → End
 
+-- done with a value; ended; or a primitive, and what follows it
 pub data Rule (A : Type 0) : Type 0 where
   done : A → Rule A
   ends : End → Rule A
