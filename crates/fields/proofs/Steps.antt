@@ -13,7 +13,7 @@ use Rattle.rules.specs.declared.FieldValue.{FieldValue}
 use Rattle.rules.specs.declared.Outcome.{Outcome}
 use Rattle.rules.specs.declared.Outcome.the-variants.{Refused, Stopped}
 use Rattle.rules.specs.Rule.{Rule, ends, End, refused, stopped, bits, skip, setEnd, field}
-use Rattle.rules.specs.Reading.{reading, isRead, resultOf, endedAt, hasRoom, read, ended}
+use Rattle.rules.specs.Reading.{reading, isRead, resultOf, endedAt, fieldTo, hasRoom, read, ended}
 use Rattle.rules.specs.Words.{wordsOf, encoded, recorded}
 use Rattle.rules.specs.Met.{Met, MetByBytes, MetByWords, MetAlone, Sound, readingAt}
 use Rattle.fields.specs.Taken.{TookBits, Skipped}
@@ -26,6 +26,15 @@ endedBy s o = record { position = s .position; end = s .end; fields = s .fields;
 
 abbrev pub movedTo : State → ℕ → ℕ → ℕ → State
 movedTo s p e n = record { position = p; end = e; fields = n; recording = s .recording; outcome = s .outcome }
+
+-- the outcome of an end
+abbrev pub outcomeOf : End → Outcome
+outcomeOf (refused n) = Refused n
+outcomeOf (stopped n) = Stopped n
+
+result-of : {A : Type 0} (z : End) (a : A) → resultOf (outcomeOf z) a ≡ ended z
+result-of (refused n) a = refl
+result-of (stopped n) a = refl
 
 pub off-when : {b d : Bool} → b ≡ d → not b ≡ true → d ≡ false
 off-when {b} q h = sym q ∙ not-true b h
@@ -74,13 +83,9 @@ module _ {s : State} (q : Sound s) where
         let g : Sound (movedTo s p e (s .fields)) = record { position = l; end = m; fields = q .fields } in
         rw k (on r g refl h (read-now _ ws _ (movedTo s p e (s .fields)) a _ h refl x))
 
-    pub refused-now : {n : ℕ} {t : State} → t ≡ endedBy s (Refused n) → MetAlone {A = Unit {0}} (ends (refused n)) s tt t
+    pub ends-now : {z : End} {t : State} → t ≡ endedBy s (outcomeOf z) → MetAlone {A = Unit {0}} (ends z) s tt t
     unfolding reading
-    refused-now {n} e = for-both (λ bs ws. ends-here (ends (refused n)) (refused n) (Refused n) refl refl e)
-
-    pub stopped-now : {n : ℕ} {t : State} → t ≡ endedBy s (Stopped n) → MetAlone {A = Unit {0}} (ends (stopped n)) s tt t
-    unfolding reading
-    stopped-now {n} e = for-both (λ bs ws. ends-here (ends (stopped n)) (stopped n) (Stopped n) refl refl e)
+    ends-now {z} e = for-both (λ bs ws. ends-here (ends z) z (outcomeOf z) (result-of z tt) refl e)
 
     pub bits-short : {w : ℕ} {bs : List ℕ} {t : State} → s .end - s .position < w → t ≡ endedBy s (Refused 3) → MetByBytes (bits w) bs s 0 t
     unfolding bits reading
@@ -126,7 +131,7 @@ module _ {s : State} (q : Sound s) where
       -- one field more, in words that hold it or with recording off
       field-made : {vs : List ℕ} → s .fields < 16384 → hasRoom (record { bytes = []; recording = s .recording; room = length ws }) (s .fields) ≡ true →
           t ≡ movedTo s (s .position) (s .end) (s .fields + 1) →
-          vs ≡ recorded (s .recording) ws (s .fields) (record { «bit_offset» = start; «bit_length» = s .position - start; value = v; name = name } ∷ []) →
+          vs ≡ recorded (s .recording) ws (s .fields) (fieldTo name start v (s .position) ∷ []) →
           MetByWords (field name start v) ws s tt t vs
       unfolding field reading
       field-made l b e w =
@@ -135,7 +140,7 @@ module _ {s : State} (q : Sound s) where
           rw e
           (for-bytes (λ bs.
           on (field name start v) g refl h
-          (field-now _ ws _ u tt _ _ (record { «bit_offset» = start; «bit_length» = s .position - start; value = v; name = name }) h refl
+          (field-now _ ws _ u tt _ _ (fieldTo name start v (s .position)) h refl
           (rw (lt-ltb _ _ l, b)) w)))
 
       pub field-off : s .fields < 16384 → s .recording ≡ false → t ≡ movedTo s (s .position) (s .end) (s .fields + 1) →
@@ -145,10 +150,10 @@ module _ {s : State} (q : Sound s) where
 
       pub field-on : {vs : List ℕ} → s .fields < 16384 → s .recording ≡ true → 5 * s .fields + 5 ≤ length ws →
           t ≡ movedTo s (s .position) (s .end) (s .fields + 1) →
-          vs ≡ sets ws (5 * s .fields) (wordsOf (record { «bit_offset» = start; «bit_length» = s .position - start; value = v; name = name })) →
+          vs ≡ sets ws (5 * s .fields) (wordsOf (fieldTo name start v (s .position))) →
           MetByWords (field name start v) ws s tt t vs
       unfolding recorded encoded
       field-on l b m e w = field-made l (rw (b, le-leb _ _ m)) e (rw b w)
 
 pub ruleset steps =
-    (off-when, on-when, by-bytes-off, by-words-off, alone-off, refused-now, stopped-now, bits-short, bits-read, skip-short, skip-read, end-back, end-past, end-set, field-many, field-full, field-off, field-on, not-true, not-false)
+    (off-when, on-when, by-bytes-off, by-words-off, alone-off, ends-now, bits-short, bits-read, skip-short, skip-read, end-back, end-past, end-set, field-many, field-full, field-off, field-on, not-true, not-false)

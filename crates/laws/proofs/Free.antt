@@ -13,8 +13,9 @@ use Rattle.rules.specs.declared.Field.{Field}
 use Rattle.rules.specs.Rule.{Rule, done, ends, positionThen, endThen, bitsThen, skipThen, fieldThen, setEndThen, pick}
 use Rattle.rules.specs.Reading.{Reading, Input, reading, with, inside}
 
-abbrev pub off : List ℕ → Input
-off bs = record { bytes = bs; recording = false; room = 0 }
+-- whatever words are lent
+abbrev pub off : List ℕ → ℕ → Input
+off bs lent = record { bytes = bs; recording = false; room = lent }
 
 abbrev pub on : List ℕ → ℕ → Input
 on bs room = record { bytes = bs; recording = true; room = room }
@@ -33,15 +34,15 @@ noted : {A : Type 0} (n room : ℕ) (f : Field) (z x y : Reading A) → 5 * (n +
     (5 * (n + 1 + length (x .fields)) ≤ room → y ≡ x) → pick (leb (5 * n + 5) room) (with f y) z ≡ with f x
 noted n room f z x y h g = rw (le-leb (5 * n + 5) room (omega arith)) (ap (with f) (g (omega arith)))
 
-pub free : {A : Type 0} (bs : List ℕ) (room : ℕ) (r : Rule A) (p e n : ℕ) → 5 * (n + length (reading (off bs) r p e n .fields)) ≤ room →
-    reading (on bs room) r p e n ≡ reading (off bs) r p e n
+pub free : {A : Type 0} (bs : List ℕ) (lent room : ℕ) (r : Rule A) (p e n : ℕ) → 5 * (n + length (reading (off bs lent) r p e n .fields)) ≤ room →
+    reading (on bs room) r p e n ≡ reading (off bs lent) r p e n
 unfolding reading
-free bs room (done a) p e n h = refl
-free bs room (ends x) p e n h = refl
-free bs room (positionThen k) p e n h = free bs room (k p) p e n h
-free bs room (endThen k) p e n h = free bs room (k e) p e n h
-free bs room (bitsThen w k) p e n h = after (ltb (e - p) w) n room _ _ _ h (λ g. free bs room (k (bitsAt bs p w)) (p + w) e n g)
-free bs room (skipThen w k) p e n h = after (ltb (e - p) w) n room _ _ _ h (λ g. free bs room k (p + w) e n g)
-free bs room (fieldThen name start v k) p e n h =
-    before (ltb n 16384) n room _ _ _ h (λ g. noted n room _ _ _ _ g (λ g. free bs room k p e (n + 1) g))
-free bs room (setEndThen x k) p e n h = before (inside (off bs) p x) n room _ _ _ h (λ g. free bs room k p x n g)
+free bs lent room (done a) p e n h = refl
+free bs lent room (ends x) p e n h = refl
+free bs lent room (positionThen k) p e n h = free bs lent room (k p) p e n h
+free bs lent room (endThen k) p e n h = free bs lent room (k e) p e n h
+free bs lent room (bitsThen w k) p e n h = after (ltb (e - p) w) n room _ _ _ h (λ g. free bs lent room (k (bitsAt bs p w)) (p + w) e n g)
+free bs lent room (skipThen w k) p e n h = after (ltb (e - p) w) n room _ _ _ h (λ g. free bs lent room k (p + w) e n g)
+free bs lent room (fieldThen name start v k) p e n h =
+    before (ltb n 16384) n room _ _ _ h (λ g. noted n room _ _ _ _ g (λ g. free bs lent room k p e (n + 1) g))
+free bs lent room (setEndThen x k) p e n h = before (inside (off bs lent) p x) n room _ _ _ h (λ g. free bs lent room k p x n g)

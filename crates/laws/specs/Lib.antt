@@ -1,3 +1,4 @@
 pub mod Tiles
 pub mod Stays
+pub mod Positions
 pub mod Names

@@ -9,7 +9,7 @@ use libc::STDOUT_FILENO;
 use rules::Outcome;
 use rules::State;
 ghost use mathlib.Core.Path.{_≡_};
-ghost use Prim.Native.Nat.{_≤_, _<_, _^_};
+ghost use Prim.Native.Nat.{_≤_};
 ghost use lib.ListN.{length};
 ghost use Rattle.rules.specs.Met.{Sound};
 
@@ -18,6 +18,26 @@ struct Tally {
     run: u64,
     wrong: u64,
     more: bool,
+}
+
+impl Tally {
+    // One record more, right or wrong.
+    fn counted(self, right: bool) -> Tally {
+        Tally {
+            run: std::num::wrapping_add_u64(self.run, 1),
+            wrong: std::num::wrapping_add_u64(self.wrong, if right { 0 } else { 1 }),
+            more: true,
+        }
+    }
+
+    // No more: the input ended there, or what follows is no record, which is wrong.
+    fn ended(self, right: bool) -> Tally {
+        Tally {
+            run: self.run,
+            wrong: std::num::wrapping_add_u64(self.wrong, if right { 0 } else { 1 }),
+            more: false,
+        }
+    }
 }
 
 // The `n` bytes from `at`, as a number.
@@ -54,7 +74,7 @@ impl Operation {
     }
 }
 
-// A number of `o.a` bits; a width that no reading has is passed over, and shows as a wrong answer.
+// A number of `o.a` bits. Here and below, what no reading has is passed over, and shows as a wrong answer.
 fn take(bytes: &[u8], words: &mut [u64], s: State, o: Operation) -> State
     requires { ⌜ Sound s ⌝ }
     ensures { λ r. ⌜ Sound r ⌝ }
@@ -130,7 +150,10 @@ fn question(bytes: &[u8], s: State, o: Operation) -> State
     if code == 7 {
         return fields::invalid(s, o.a as u64);
     }
-    fields::stop(s, o.a as u64)
+    if code == 8 {
+        return fields::stop(s, o.a as u64);
+    }
+    s
 }
 
 fn step(bytes: &[u8], words: &mut [u64], s: State, o: Operation) -> State
@@ -266,7 +289,7 @@ fn buffer() -> [u64; 98304]
     [0; 98304]
 }
 
-// One record, if there is one more.
+// One record, if there is one more: of kind 0, with an input and words for which there is room.
 fn one(tally: Tally, bytes: &mut [u8], words: &mut [u64]) -> Tally
     requires { ⌜ length (now bytes) ≤ 8388608 ⌝ }
 {
@@ -275,32 +298,19 @@ fn one(tally: Tally, bytes: &mut [u8], words: &mut [u64]) -> Tally
     let size = number(&head, 14, 4) as usize;
     let room = number(&head, 2, 4) as usize;
     if got < 34 {
-        return Tally {
-            run: tally.run,
-            wrong: std::num::wrapping_add_u64(tally.wrong, if got == 0 { 0 } else { 1 }),
-            more: false,
-        };
+        return tally.ended(got == 0);
+    }
+    if number(&head, 0, 1) != 0 {
+        return tally.ended(false);
     }
     if bytes.len() < size {
-        return Tally {
-            run: tally.run,
-            wrong: std::num::wrapping_add_u64(tally.wrong, 1),
-            more: false,
-        };
+        return tally.ended(false);
     }
     if words.len() < room {
-        return Tally {
-            run: tally.run,
-            wrong: std::num::wrapping_add_u64(tally.wrong, 1),
-            more: false,
-        };
+        return tally.ended(false);
     }
     let right = run(&head, &mut bytes[0..size], &mut words[0..room]);
-    Tally {
-        run: std::num::wrapping_add_u64(tally.run, 1),
-        wrong: std::num::wrapping_add_u64(tally.wrong, if right { 0 } else { 1 }),
-        more: true,
-    }
+    tally.counted(right)
 }
 
 // All records, of which there are fewer than 2^32.

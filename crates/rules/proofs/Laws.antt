@@ -198,7 +198,7 @@ ended-as {A} {B} {x} {bs} {ws} {vs} {s} {t} {a} {b} m =
     again (Refused n) h = cc
     again (Stopped n) h = cc
 
--- a question that the code has asked by itself: what it asks of the code is met, or not
+-- a question that the code asks by a test of its own: it is met, or not
 module _ {B : Type 0} (x : End) (f : Unit {0} → Rule B) {bs ws : List ℕ} {s : State} {b : B} {t : State} {vs : List ℕ} {ok : Bool} where
   pub demand-kept : ok ≡ true → Met (f tt) bs ws s b t vs → Met (demand ok x >>= f) bs ws s b t vs
   unfolding demand _>>=_

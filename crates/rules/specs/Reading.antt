@@ -6,6 +6,7 @@ use lib.ListN.{length}
 use lib.Dec.{ltb, leb}
 use Rattle.bits.specs.Bits.{bitsAt}
 use Rattle.rules.specs.declared.Field.{Field}
+use Rattle.rules.specs.declared.FieldValue.{FieldValue}
 use Rattle.rules.specs.declared.Outcome.{Outcome}
 use Rattle.rules.specs.declared.Outcome.the-variants.{Read, Refused, Stopped}
 use Rattle.rules.specs.Rule.{Rule, done, ends, positionThen, endThen, bitsThen, skipThen, fieldThen, setEndThen, End, refused, stopped, pick}
@@ -34,6 +35,10 @@ endedAt x p e = record { result = ended x; position = p; end = e; fields = [] }
 abbrev pub with : {A : Type 0} → Field → Reading A → Reading A
 with f r = record { result = r .result; position = r .position; end = r .end; fields = f ∷ r .fields }
 
+-- the field from `start` up to the position `p`
+abbrev pub fieldTo : ℕ → ℕ → FieldValue → ℕ → Field
+fieldTo name start v p = record { «bit_offset» = start; «bit_length» = p - start; value = v; name = name }
+
 -- five words for one field more
 abbrev pub hasRoom : Input → ℕ → Bool
 hasRoom i n = not (i .recording) || leb (5 * n + 5) (i .room)
@@ -53,7 +58,7 @@ reading i (skipThen w k) p e n = pick (ltb (e - p) w) (endedAt (refused 3) p e) 
 reading i (fieldThen name start v k) p e n =
     pick (ltb n 16384)
     (pick (hasRoom i n)
-    (with (record { «bit_offset» = start; «bit_length» = p - start; value = v; name = name }) (reading i k p e (n + 1)))
+    (with (fieldTo name start v p) (reading i k p e (n + 1)))
     (endedAt (refused 5) p e))
     (endedAt (refused 4) p e)
 reading i (setEndThen x k) p e n = pick (inside i p x) (reading i k p x n) (endedAt (refused 3) p e)
