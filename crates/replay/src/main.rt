@@ -201,7 +201,7 @@ fn agrees(head: &[u8; 34], s: State) -> bool {
     let kind = number(head, 20, 1);
     let told = number(head, 21, 1);
     let same = match outcome {
-        Outcome::Read => kind == 0,
+        Outcome::Read => kind == 0 && told == 0,
         Outcome::Refused(n) => kind == 1 && told == n,
         Outcome::Stopped(n) => kind == 2 && told == n,
     };
