@@ -1,4 +1,5 @@
 //! Answers in the words of document 01, and the text lines that carry them.
+use crate::names;
 use crate::request::{Shape, shape_list};
 use crate::text::joined;
 use apac::numbers::{self, REFUSALS, STOPS};
@@ -117,6 +118,14 @@ impl Answer {
             shapes: given.to_vec(),
             fields: Vec::new(),
         }
+    }
+
+    /// The same answer, its fields named by their words.
+    pub fn in_words(mut self) -> Result<Self, String> {
+        for field in &mut self.fields {
+            field.name = names::word(&field.name)?.to_string();
+        }
+        Ok(self)
     }
 
     /// The number of positions that a scene declared.

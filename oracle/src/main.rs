@@ -1,28 +1,16 @@
-//! The oracle: the original Rust, asked in the words of document 01.
-mod answer;
-mod bits;
-mod compare;
-mod driver;
-mod generate;
-mod label;
-mod record;
-mod request;
-mod rng;
-mod script;
-mod table;
-#[cfg(test)]
-mod tests;
-mod text;
-
-use driver::{answer, confirm_default_shape};
-use request::Request;
+//! The program: its commands, each from standard input to standard output.
+use oracle::answer::Answer;
+use oracle::driver::{answer, confirm_default_shape};
+use oracle::program::{each_line, ended, told};
+use oracle::request::Request;
+use oracle::table::Table;
+use oracle::{compare, generate, record, text};
 use std::env;
-use std::io::{self, BufRead, BufWriter, Write};
+use std::io::{self, BufWriter, Write};
 use std::process::ExitCode;
-use table::Table;
 
 const USAGE: &str = "usage: oracle generate SEED SCALE > requests
-       oracle answer < requests > answers
+       oracle answer [words] < requests > answers
        oracle compare ANSWERS ANSWERS
        oracle table < answers
        oracle sample SEED > requests
@@ -31,14 +19,7 @@ const USAGE: &str = "usage: oracle generate SEED SCALE > requests
 fn main() -> ExitCode {
     let words: Vec<String> = env::args().skip(1).collect();
     let words: Vec<&str> = words.iter().map(String::as_str).collect();
-    match run(&words) {
-        Ok(true) => ExitCode::SUCCESS,
-        Ok(false) => ExitCode::from(1),
-        Err(message) => {
-            eprintln!("oracle: {message}");
-            ExitCode::from(2)
-        }
-    }
+    ended("oracle", run(&words))
 }
 
 /// Whether the command found all in order.
@@ -56,7 +37,11 @@ fn run(words: &[&str]) -> Result<bool, String> {
             true
         }
         ["answer"] => {
-            each_line(|line| write_answer(line, &mut out))?;
+            each_line(|line| write_answer(answered(line)?, &mut out))?;
+            true
+        }
+        ["answer", "words"] => {
+            each_line(|line| write_answer(answered(line)?.in_words()?, &mut out))?;
             true
         }
         ["record"] => {
@@ -71,21 +56,11 @@ fn run(words: &[&str]) -> Result<bool, String> {
     Ok(good)
 }
 
-fn told(error: io::Error) -> String {
-    error.to_string()
+fn answered(line: &str) -> Result<Answer, String> {
+    Ok(answer(&Request::parse(line)?))
 }
 
-/// Hands on each line of standard input; an error is told with its line.
-fn each_line(mut take: impl FnMut(&str) -> Result<(), String>) -> Result<(), String> {
-    for (i, line) in io::stdin().lock().lines().enumerate() {
-        let taken = line.map_err(told).and_then(|line| take(&line));
-        taken.map_err(|message| format!("line {}: {message}", i + 1))?;
-    }
-    Ok(())
-}
-
-fn write_answer(line: &str, out: &mut impl Write) -> Result<(), String> {
-    let answer = answer(&Request::parse(line)?);
+fn write_answer(answer: Answer, out: &mut impl Write) -> Result<(), String> {
     writeln!(out, "{answer}").map_err(told)
 }
 
@@ -102,9 +77,9 @@ fn write_table(out: &mut impl Write) -> Result<bool, String> {
     each_line(|line| table.count(line))?;
     let rare = table.rare();
     let verdict = if rare.is_empty() {
-        "every number that the Rust can give was reached at least five times".into()
+        "every number that these kinds of readings can give was reached at least five times".into()
     } else {
-        format!("reached fewer than five times: {rare:?}")
+        format!("reached fewer than five times: {}", rare.join(", "))
     };
     let text = table.text();
     writeln!(out, "{text}\n\n{verdict}").map_err(told)?;
@@ -115,7 +90,7 @@ fn write_table(out: &mut impl Write) -> Result<bool, String> {
 fn write_comparison(a: &str, b: &str, out: &mut impl Write) -> Result<bool, String> {
     let compared = compare::compare(a, b).map_err(told)?;
     let text = match &compared {
-        Ok(lines) => format!("{lines} answers agree"),
+        Ok(lines) => format!("{lines} answers, 0 differences"),
         Err(difference) => {
             let [left, right] = difference.sides.each_ref().map(|side| match side {
                 Some(line) => line.as_str(),

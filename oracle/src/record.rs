@@ -1,49 +1,71 @@
 //! Requests with their answers as binary records, all numbers big-endian.
 use crate::answer::{Answer, Field, Outcome};
-use crate::driver::answer;
-use crate::request::{Call, Question, Request};
+use crate::driver::{GREATEST_COUNT, answer};
+use crate::names;
+use crate::request::{Question, Request, Shape};
 use apac::run::{Action, Op};
 
-/// The first byte of a record.
-const FIELDS_KIND: u8 = 0;
+/// The kinds that have records; the first byte of a record is the place of its kind here.
+const KINDS: [&str; 5] = ["fields", "scene", "update", "position", "validation"];
 
 /// The record of a request, `None` for the kinds that have none yet.
 pub fn record(request: &Request) -> Result<Option<Vec<u8>>, String> {
-    match request {
-        Request::Call(call) => match &call.question {
-            Question::Fields(ops) => fields_record(call, ops, &answer(request)).map(Some),
-            _ => Ok(None),
-        },
-        Request::Validation { .. } => Ok(None),
-    }
+    let kind = KINDS.iter().position(|&kind| kind == request.kind());
+    kind.map(|kind| whole(kind as u8, request, &answer(request)))
+        .transpose()
 }
 
-fn fields_record(call: &Call, ops: &[Op], answer: &Answer) -> Result<Vec<u8>, String> {
-    let mut record = header(call, ops.len(), answer)?;
-    record.extend_from_slice(&call.bytes);
-    ops.iter().for_each(|op| put_op(&mut record, op));
-    for field in &answer.fields {
-        put_field(&mut record, field)?;
-    }
+fn whole(kind: u8, request: &Request, answer: &Answer) -> Result<Vec<u8>, String> {
+    let mut record = vec![kind];
+    put_arguments(&mut record, request)?;
+    put_end(&mut record, answer)?;
+    put_given(&mut record, request)?;
+    put_result(&mut record, answer)?;
     Ok(record)
 }
 
-fn header(call: &Call, ops: usize, answer: &Answer) -> Result<Vec<u8>, String> {
+/// Recording, room, offset, length of the input, and a number that each kind has of its own.
+fn put_arguments(record: &mut Vec<u8>, request: &Request) -> Result<(), String> {
+    let (recording, room, offset, bytes) = match request {
+        Request::Call(call) => (call.recording, call.room, call.offset, call.bytes.len()),
+        Request::Validation { at, .. } => (false, 0, *at, 0),
+    };
+    record.push(recording.into());
+    record.extend(room.to_be_bytes());
+    record.extend(offset.to_be_bytes());
+    record.extend(fitting::<u32>(bytes)?.to_be_bytes());
+    record.extend(fitting::<u16>(own_number(request))?.to_be_bytes());
+    Ok(())
+}
+
+/// The number of operations, whether a position is a full one, or else the number of shapes.
+fn own_number(request: &Request) -> usize {
+    match question(request) {
+        Some(Question::Fields(ops)) => ops.len(),
+        Some(Question::Position { full, .. }) => (*full).into(),
+        _ => request.shapes().len(),
+    }
+}
+
+fn question(request: &Request) -> Option<&Question> {
+    match request {
+        Request::Call(call) => Some(&call.question),
+        Request::Validation { .. } => None,
+    }
+}
+
+/// The outcome with its number and position, and the count of fields.
+fn put_end(record: &mut Vec<u8>, answer: &Answer) -> Result<(), String> {
     let verdict = &answer.verdict;
-    let mut record = vec![FIELDS_KIND, call.recording.into()];
-    record.extend(call.room.to_be_bytes());
-    record.extend(call.offset.to_be_bytes());
-    record.extend(fitting::<u32>(call.bytes.len())?.to_be_bytes());
-    record.extend(fitting::<u16>(ops)?.to_be_bytes());
     record.push(outcome_code(&verdict.outcome)?);
     record.push(verdict.number);
     record.extend(verdict.position.to_be_bytes());
     record.extend(fitting::<u32>(answer.count)?.to_be_bytes());
-    Ok(record)
+    Ok(())
 }
 
-fn fitting<T: TryFrom<usize>>(length: usize) -> Result<T, String> {
-    T::try_from(length).map_err(|_| format!("too long for a record: {length}"))
+fn fitting<T: TryFrom<usize>>(number: usize) -> Result<T, String> {
+    T::try_from(number).map_err(|_| format!("too large for a record: {number}"))
 }
 
 fn outcome_code(outcome: &Outcome) -> Result<u8, String> {
@@ -53,6 +75,29 @@ fn outcome_code(outcome: &Outcome) -> Result<u8, String> {
         Outcome::Stopped => Ok(2),
         other => Err(format!("the Rust gave no answer: {other}")),
     }
+}
+
+/// The input, and the operations or the shapes that were handed in.
+fn put_given(record: &mut Vec<u8>, request: &Request) -> Result<(), String> {
+    if let Request::Call(call) = request {
+        record.extend_from_slice(&call.bytes);
+    }
+    if let Some(Question::Fields(ops)) = question(request) {
+        ops.iter().for_each(|op| put_op(record, op));
+    }
+    put_shapes(record, request.shapes())
+}
+
+/// The shapes after the call, a scene's with their number before them, and the fields.
+fn put_result(record: &mut Vec<u8>, answer: &Answer) -> Result<(), String> {
+    if answer.kind == "scene" {
+        record.extend(fitting::<u16>(answer.shapes.len())?.to_be_bytes());
+    }
+    put_shapes(record, &answer.shapes)?;
+    answer
+        .fields
+        .iter()
+        .try_for_each(|field| put_field(record, field))
 }
 
 fn put_op(record: &mut Vec<u8>, op: &Op) {
@@ -73,15 +118,109 @@ fn put_op(record: &mut Vec<u8>, op: &Op) {
     record.extend(op.name.to_be_bytes());
 }
 
+/// No more shapes than the port takes.
+fn put_shapes(record: &mut Vec<u8>, shapes: &[Shape]) -> Result<(), String> {
+    let mut taken = shapes.iter().take(GREATEST_COUNT);
+    taken.try_for_each(|shape| put_shape(record, shape))
+}
+
+fn put_shape(record: &mut Vec<u8>, shape: &Shape) -> Result<(), String> {
+    let flags = [shape.parent_dynamic, shape.range_dynamic, shape.polar].map(u8::from);
+    record.extend([flags[0] | flags[1] << 1 | flags[2] << 2, 0, 0, 0]);
+    for precision in [shape.position_precision, shape.rotation_precision] {
+        record.extend(fitting::<u32>(precision)?.to_be_bytes());
+    }
+    record.extend(fitting::<u64>(shape.parent)?.to_be_bytes());
+    Ok(())
+}
+
 fn put_field(record: &mut Vec<u8>, field: &Field) -> Result<(), String> {
-    let name = crate::text::number(&field.name)?;
     let words = [
         field.offset,
         field.length,
         field.kind.into(),
         field.value,
-        name,
+        names::word(&field.name)?,
     ];
     record.extend(words.into_iter().flat_map(u64::to_be_bytes));
     Ok(())
+}
+
+#[cfg(test)]
+mod tests {
+    use super::*;
+    use crate::text::hex;
+
+    fn recorded(line: &str) -> Option<Vec<u8>> {
+        record(&Request::parse(line).expect("a request")).expect("an answer")
+    }
+
+    /// The record of a request, held to its parts in hexadecimal digits.
+    fn check(line: &str, parts: &[&str]) {
+        let record = recorded(line).expect("a kind with records");
+        assert_eq!(hex(&record), parts.concat(), "{line}");
+    }
+
+    const STILL: &str = "0100000000000000000000000000000000000000";
+    const HUNG: &str = "0100000000000000000000000000000000000001";
+
+    #[test]
+    fn scenes() {
+        let head = "01_01_00000005_0000000000000000_00000001_0000_00_00_0000000000000006_00000001";
+        let words = [0_u64, 6, 1, 0, 257].map(|word| format!("{word:016x}"));
+        check(
+            "scene 0 1 5 00",
+            &[&plain(head), "00", "0000", &words.concat()],
+        );
+        let head = "01_00_00000000_0000000000000000_00000006_0000_00_00_0000000000000030_00000014";
+        let input = "0a0080800080";
+        let line = format!("scene 0 0 0 {input}");
+        check(&line, &[&plain(head), input, "0002", STILL, HUNG]);
+    }
+
+    fn plain(digits: &str) -> String {
+        digits.replace('_', "")
+    }
+
+    #[test]
+    fn updates() {
+        let head = "02_00_00000000_0000000000000000_00000001_0002_00_00_0000000000000007_00000007";
+        let line = "update 0 0 0 1:0:0:0:0:0,1:0:0:0:1:0 70";
+        check(line, &[&plain(head), "70", STILL, HUNG, STILL, STILL]);
+    }
+
+    #[test]
+    fn positions() {
+        let head = "03_01_00000008_0000000000000009_00000001_0001_01_02_0000000000000000_00000000";
+        let shape = "0600000000000018000000190000000000000003";
+        check(
+            "position 9 1 8 1 0:1:24:25:3:1 ff",
+            &[&plain(head), "ff", shape, shape],
+        );
+    }
+
+    #[test]
+    fn validations() {
+        let head = "04_00_00000000_000000000000004d_00000000_0001_01_09_000000000000004d_00000000";
+        check("validation 77 1:0:0:0:1:0", &[&plain(head), HUNG]);
+    }
+
+    /// No more shapes than 63 are written, and their true number.
+    #[test]
+    fn too_many_shapes() {
+        let shapes = vec!["0:0:0:0:0:0"; 70].join(",");
+        for (line, written) in [
+            (format!("update 0 0 0 {shapes} -"), 2 * 63),
+            (format!("validation 0 {shapes}"), 63),
+        ] {
+            let record = recorded(&line).expect("a kind with records");
+            assert_eq!(record.len(), 34 + 20 * written);
+            assert_eq!(record[18..20], [0, 70]);
+        }
+    }
+
+    #[test]
+    fn metadata_has_no_records() {
+        assert_eq!(recorded("metadata 0 1 5 00"), None);
+    }
 }

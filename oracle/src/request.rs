@@ -56,6 +56,21 @@ impl Question {
 }
 
 impl Request {
+    pub fn kind(&self) -> &'static str {
+        match self {
+            Self::Call(call) => call.question.kind(),
+            Self::Validation { .. } => "validation",
+        }
+    }
+
+    /// The shapes that are handed in.
+    pub fn shapes(&self) -> &[Shape] {
+        match self {
+            Self::Call(call) => call.question.shapes(),
+            Self::Validation { shapes, .. } => shapes,
+        }
+    }
+
     pub fn parse(line: &str) -> Result<Self, String> {
         let mut words = Words::new(line);
         let kind = words.next()?;

@@ -13,7 +13,20 @@ const KINDS: [&str; 6] = [
     "fields",
 ];
 
-/// Numbers that the Rust can give are to be reached at least so often.
+/// What the readings of each kind can end in, beside the questions that document 01 adds. Scripts
+/// don't count: they can be told to end in any number.
+const ENDS: [&[u8]; KINDS.len()] = [
+    &[3, 6, 7, 8, 9],
+    &[3, 7, 8, 9],
+    &[3, 7],
+    &[
+        3, 4, 6, 7, 10, 11, 12, 13, 14, 15, 16, 17, 18, 19, 20, 21, 22, 31, 32, 33, 34, 35,
+    ],
+    &[8, 9],
+    &[],
+];
+
+/// Each of these is to be reached at least so often.
 const ENOUGH: usize = 5;
 
 /// Read, and the questions that document 01 adds.
@@ -54,12 +67,15 @@ impl Table {
         lines.join("\n")
     }
 
-    /// The numbers of the Rust that its readings reached too rarely. Scripts don't count here:
-    /// they can be told to end in any number.
-    pub fn rare(&self) -> Vec<u8> {
-        let by_readings = |row: [usize; KINDS.len()]| row[..KINDS.len() - 1].iter().sum::<usize>();
-        let rare = |n: &u8| by_readings(self.row(*n)) < ENOUGH;
-        numbers_of_the_rust().filter(rare).collect()
+    /// The numbers that the readings of a kind that was asked reached too rarely.
+    pub fn rare(&self) -> Vec<String> {
+        let asked = self.sums();
+        let kinds = (0..KINDS.len()).filter(|&kind| asked[kind] > 0);
+        kinds
+            .flat_map(|kind| ENDS[kind].iter().map(move |&number| (kind, number)))
+            .filter(|&(kind, number)| self.row(number)[kind] < ENOUGH)
+            .map(|(kind, number)| format!("{} {number}", KINDS[kind]))
+            .collect()
     }
 
     pub fn is_odd(&self) -> bool {

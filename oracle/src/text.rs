@@ -7,7 +7,7 @@ const NONE: &str = "-";
 const DIGITS: &[u8; 16] = b"0123456789abcdef";
 
 /// The words of a line, parted by one space.
-pub struct Words<'a>(Split<'a, char>);
+pub(crate) struct Words<'a>(Split<'a, char>);
 
 impl<'a> Words<'a> {
     pub fn new(line: &'a str) -> Self {

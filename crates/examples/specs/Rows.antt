@@ -1,55 +1,85 @@
 -- Document 01's worked examples as rows, and the one claim that all of them hold of the definitions.
 use Prim.Native.Nat.{ℕ, _*_}
 use mathlib.Core.Path.{_≡_}
-use mathlib.Core.List.{List, [], _∷_}
+use mathlib.Core.List.{List, [], _∷_, map}
 use mathlib.Core.Bool.{false}
 use lib.ListN.{length}
-use Rattle.rules.specs.Rule.{Rule, refused, stopped}
-use Rattle.rules.specs.Reading.{Reading, Result, read, ended, reading}
+use Rattle.rules.specs.Rule.{Rule}
+use Rattle.rules.specs.Reading.{Reading, reading}
 use Rattle.rules.specs.Derived.{escaped}
+use Rattle.rules.specs.Answer.{outcomeOf, outcomeNumber, valueOr}
+use Rattle.validation.specs.Rank.{parents}
+use Rattle.claims.specs.Book.{Packet, bookScene, bookFirst, bookReading, bookShapes}
 
--- an example of each kind: what is read
+-- an example of each kind: what is read, from the first bit on and with recording off
 pub data Example : Type 0 where
   -- an escaped number of these widths at the start of these bytes
   escapedIn : (bytes widths : List ℕ) → Example
+  -- a scene
+  sceneIn : (bytes : List ℕ) → Example
+  -- a packet after a scene and the packets before it, refused ones included
+  packetAfter : (scene : List ℕ) (before : List (List ℕ)) (bytes : List ℕ) → Example
 
--- and what it gives: the number (0 if read), the bit position, how many fields, and the value
+-- and what it gives: the number (0 if read), the bit position, how many fields, and the value, or the parents of the shapes
 pub record Row : Type 0 where
   pub example : Example
   pub number : ℕ
   pub position : ℕ
   pub fields : ℕ
-  pub value : ℕ
+  pub values : List ℕ
 
-abbrev pub numberOf : {A : Type 0} → Result A → ℕ
-numberOf (read a) = 0
-numberOf (ended (refused n)) = n
-numberOf (ended (stopped n)) = n
-
-abbrev pub valueOf : Result ℕ → ℕ
-valueOf (read a) = a
-valueOf (ended x) = 0
+abbrev pub row : {A : Type 0} → Example → Reading A → (A → List ℕ) → A → Row
+row example x values none = record {
+  example = example;
+  number = outcomeNumber (outcomeOf (x .result));
+  position = x .position;
+  fields = length (x .fields);
+  values = values (valueOr none (x .result));
+}
 
 abbrev pub whole : List ℕ → Rule ℕ → Reading ℕ
 whole bs r = reading (record { bytes = bs; recording = false; room = 0 }) r 0 (8 * length bs) 0
 
+abbrev pub packetIn : List ℕ → Packet
+packetIn bs = record { bytes = bs; offset = 0; recording = false; room = 0 }
+
 abbrev pub given : Example → Row
-given (escapedIn bs widths) =
-    let x = whole bs (escaped 0 widths) in
-    record {
-      example = escapedIn bs widths;
-      number = numberOf (x .result);
-      position = x .position;
-      fields = length (x .fields);
-      value = valueOf (x .result);
-    }
+given (escapedIn bs widths) = row (escapedIn bs widths) (whole bs (escaped 0 widths)) (λ v. v ∷ []) 0
+given (sceneIn bs) = row (sceneIn bs) (bookScene (packetIn bs)) parents []
+given (packetAfter scene before bs) =
+    let shapes = bookShapes (map packetIn before) (bookFirst (packetIn scene)) in
+    row (packetAfter scene before bs) (bookReading (packetIn bs) shapes) parents shapes
 
 abbrev pub AllHold : List Row → Type 0
 AllHold [] = Unit {0}
-AllHold (row ∷ rows) = (given (row .example) ≡ row) × AllHold rows
+AllHold (r ∷ rs) = (given (r .example) ≡ r) × AllHold rs
+
+-- the parts of document 01's show
+abbrev pub part0 : List ℕ
+part0 = 0x0A ∷ 0x00 ∷ 0x80 ∷ 0x80 ∷ 0x00 ∷ 0x80 ∷ []
+
+abbrev pub part1 : List ℕ
+part1 = 0xC1 ∷ 0x00 ∷ []
+
+abbrev pub part2 : List ℕ
+part2 = 0x70 ∷ []
+
+abbrev pub part3 : List ℕ
+part3 = 0xC1 ∷ 0x00 ∷ []
 
 abbrev pub rows : List Row
 rows =
     -- widths 4, 7, 10 on 1111 0000000: value 15
-    record { example = escapedIn (0xF0 ∷ 0x00 ∷ []) (4 ∷ 7 ∷ 10 ∷ []); number = 0; position = 11; fields = 1; value = 15 } ∷
+    record { example = escapedIn (0xF0 ∷ 0x00 ∷ []) (4 ∷ 7 ∷ 10 ∷ []); number = 0; position = 11; fields = 1; values = 15 ∷ [] } ∷
+    -- scenes: no bytes; no position; one that is not there; one whose parent is not declared; one without a parent
+    record { example = sceneIn []; number = 3; position = 0; fields = 0; values = [] } ∷
+    record { example = sceneIn (0x00 ∷ []); number = 0; position = 6; fields = 1; values = [] } ∷
+    record { example = sceneIn (0x04 ∷ []); number = 6; position = 6; fields = 1; values = [] } ∷
+    record { example = sceneIn (0x04 ∷ 0x00 ∷ 0x04 ∷ 0x00 ∷ []); number = 8; position = 30; fields = 11; values = [] } ∷
+    record { example = sceneIn (0x04 ∷ 0x00 ∷ 0x00 ∷ 0x00 ∷ []); number = 0; position = 30; fields = 11; values = 0 ∷ [] } ∷
+    -- the show: the second part closes a circle, and is accepted once the third has opened it
+    record { example = sceneIn part0; number = 0; position = 48; fields = 20; values = 0 ∷ 1 ∷ [] } ∷
+    record { example = packetAfter part0 [] part1; number = 9; position = 13; fields = 8; values = 0 ∷ 1 ∷ [] } ∷
+    record { example = packetAfter part0 (part1 ∷ []) part2; number = 0; position = 7; fields = 7; values = 0 ∷ 0 ∷ [] } ∷
+    record { example = packetAfter part0 (part1 ∷ part2 ∷ []) part3; number = 0; position = 13; fields = 8; values = 2 ∷ 0 ∷ [] } ∷
     []

@@ -1,9 +1,10 @@
--- One turn of each loop: over the parts of an escaped number, and over the bytes of a label.
-use Prim.Native.Nat.{ℕ, zero, suc, _+_, _-_, _<_, _≤_, _^_}
-use mathlib.Core.Path.{_≡_}
-use mathlib.Core.List.{List}
+-- One turn of each loop: over the parts of an escaped number, the widths of a list of numbers, and the bytes of a label.
+use Prim.Native.Nat.{ℕ, zero, suc, _+_, _-_, _*_, _<_, _≤_, _^_}
+use mathlib.Core.Path.{_≡_, ap, _∙_}
+use mathlib.Core.List.{List, [], _∷_}
 use mathlib.Core.Bool.{Bool, true, false}
 use native.Mathlib.Omega.{arith}
+use native.Mathlib.Nat.{mul-suc}
 use native.Mathlib.Numerals.{add-one}
 use borrow.Author.Tests.{eq-eqb, ne-eqb}
 use lib.ListN.{length, getD, drop, drop-of-length-le}
@@ -11,11 +12,11 @@ use lib.Pow.{pow-mono}
 use lib.Seq.{drop-cons}
 use Rattle.rules.specs.declared.State.{State}
 use Rattle.rules.specs.Rule.{Rule, done, bits, pick}
-use Rattle.rules.specs.Derived.{isFull, parts, labelBytes, invalid}
-use Rattle.rules.specs.Met.{MetByBytes, MetAlone}
-use Rattle.fields.specs.Taken.{Widths}
+use Rattle.rules.specs.Derived.{take, isFull, parts, passiveValues, labelBytes, invalid}
+use Rattle.rules.specs.Met.{Met, MetByBytes, MetAlone}
 use Rattle.rules.proofs.Laws.{last, ended-as}
-use Rattle.rules.proofs.Left.{LeftByBytes, left-by-bytes-step, left-by-bytes-end}
+use Rattle.rules.proofs.Left.{Left, left-step, LeftByBytes, left-by-bytes-step, left-by-bytes-end}
+use Rattle.fields.specs.Taken.{Widths, Narrow}
 use Rattle.fields.proofs.Steps.{for-words}
 
 -- a value at the end of a loop
@@ -47,6 +48,29 @@ module _ {r : Rule ℕ} {bs : List ℕ} {s t : State} (widths : List ℕ) (value
   pub part-none : 3 ≤ i → MetByBytes r bs s value t
   unfolding parts
   part-none h = let k : length widths ≤ i = omega arith in ended-with (rw (drop-of-length-le widths k) at l)
+
+-- the next width of a list can be read
+pub narrow-at : (widths : List ℕ) → Narrow widths → (i : ℕ) → i < length widths → getD widths i 0 ≤ 64
+narrow-at [] w i h = absurd (omega arith)
+narrow-at (x ∷ widths) w zero h = w .0
+narrow-at (x ∷ widths) w (suc i) h = narrow-at widths (w .1) i (omega arith)
+
+-- names `step` apart that are small go on being so
+pub names-more : (name step n i : ℕ) → i < n → name + step * (n - i) < 2 ^ 64 → name + step + step * (n - (i + 1)) < 2 ^ 64
+names-more name step n i h l =
+    let e : n - i ≡ suc (n - (i + 1)) = omega arith in
+    let d : step * (n - i) ≡ step * (n - (i + 1)) + step = ap (λ (k : ℕ). step * k) e ∙ mul-suc step (n - (i + 1)) in
+    omega arith
+
+module _ {r : Rule (Unit {0})} {bs ws vs : List ℕ} {s t : State} (widths : List ℕ) (name step i : ℕ) (l : Left r bs ws s (passiveValues name step (drop i widths)) t vs) where
+  pub values-more : {v : ℕ} {u : State} {us : List ℕ} → i < length widths → Met (take name (getD widths i 0)) bs vs t v u us →
+      Left r bs ws s (passiveValues (name + step) step (drop (i + 1) widths)) u us
+  unfolding passiveValues
+  values-more h d = rw add-one (left-step _ (rw (drop-cons widths i 0 h) at l) d)
+
+  pub values-none : length widths ≤ i → Met r bs ws s tt t vs
+  unfolding passiveValues
+  values-none h = (rw (drop-of-length-le widths h) at l) .rest (last (l .sound))
 
 module _ {r : Rule ℕ} {bs : List ℕ} {s t u : State} (n : ℕ) (l : LeftByBytes r bs s (labelBytes (4097 - n) n) t) where
   module _ {b : ℕ} (h : n < 4097) (d : MetByBytes (bits 8) bs t b u) where

@@ -11,14 +11,15 @@ use Rattle.bits.specs.Bits.{bitsAt}
 use Rattle.rules.specs.declared.State.{State}
 use Rattle.rules.specs.declared.FieldValue.{FieldValue}
 use Rattle.rules.specs.declared.Outcome.{Outcome}
-use Rattle.rules.specs.declared.Outcome.the-variants.{Refused, Stopped}
+use Rattle.rules.specs.declared.Outcome.the-variants.{Refused}
 use Rattle.rules.specs.Rule.{Rule, ends, End, refused, stopped, bits, skip, setEnd, field}
 use Rattle.rules.specs.Reading.{reading, isRead, resultOf, endedAt, fieldTo, hasRoom, read, ended}
+use Rattle.rules.specs.Answer.{endOutcome}
 use Rattle.rules.specs.Words.{wordsOf, encoded, recorded}
 use Rattle.rules.specs.Met.{Met, MetByBytes, MetByWords, MetAlone, Sound, readingAt}
-use Rattle.fields.specs.Taken.{TookBits, Skipped}
 use Rattle.rules.proofs.Forward.{met-forward}
 use Rattle.rules.proofs.Laws.{on, off, ended-now, read-now, field-now}
+use Rattle.fields.specs.Taken.{TookBits, Skipped}
 
 -- the states that the code makes
 abbrev pub endedBy : State → Outcome → State
@@ -27,12 +28,7 @@ endedBy s o = record { position = s .position; end = s .end; fields = s .fields;
 abbrev pub movedTo : State → ℕ → ℕ → ℕ → State
 movedTo s p e n = record { position = p; end = e; fields = n; recording = s .recording; outcome = s .outcome }
 
--- the outcome of an end
-abbrev pub outcomeOf : End → Outcome
-outcomeOf (refused n) = Refused n
-outcomeOf (stopped n) = Stopped n
-
-result-of : {A : Type 0} (z : End) (a : A) → resultOf (outcomeOf z) a ≡ ended z
+result-of : {A : Type 0} (z : End) (a : A) → resultOf (endOutcome z) a ≡ ended z
 result-of (refused n) a = refl
 result-of (stopped n) a = refl
 
@@ -83,9 +79,9 @@ module _ {s : State} (q : Sound s) where
         let g : Sound (movedTo s p e (s .fields)) = record { position = l; end = m; fields = q .fields } in
         rw k (on r g refl h (read-now _ ws _ (movedTo s p e (s .fields)) a _ h refl x))
 
-    pub ends-now : {z : End} {t : State} → t ≡ endedBy s (outcomeOf z) → MetAlone {A = Unit {0}} (ends z) s tt t
+    pub ends-now : {z : End} {t : State} → t ≡ endedBy s (endOutcome z) → MetAlone {A = Unit {0}} (ends z) s tt t
     unfolding reading
-    ends-now {z} e = for-both (λ bs ws. ends-here (ends z) z (outcomeOf z) (result-of z tt) refl e)
+    ends-now {z} e = for-both (λ bs ws. ends-here (ends z) z (endOutcome z) (result-of z tt) refl e)
 
     pub bits-short : {w : ℕ} {bs : List ℕ} {t : State} → s .end - s .position < w → t ≡ endedBy s (Refused 3) → MetByBytes (bits w) bs s 0 t
     unfolding bits reading

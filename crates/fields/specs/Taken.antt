@@ -1,7 +1,7 @@
 -- What a function that reads a number promises beside its rule: how large the number is, and that it goes forward.
 use Prim.Native.Nat.{ℕ, _≤_, _<_}
 use mathlib.Core.Path.{_≡_}
-use mathlib.Core.List.{List}
+use mathlib.Core.List.{List, [], _∷_}
 use lib.ListN.{getD}
 use Rattle.rules.specs.declared.State.{State}
 use Rattle.rules.specs.declared.FieldValue.the-variants.{Number}
@@ -27,12 +27,19 @@ pub record Skipped (r : Rule (Unit {0})) (s t : State) : Type 0 where
   pub met : MetAlone r s tt t
   pub onward : s .position ≤ t .position
 
-pub record Counted (r : Rule ℕ) (s : State) (a : ℕ) (t : State) : Type 0 where
+-- a count of which `n` was declared
+pub record Counted (r : Rule ℕ) (n : ℕ) (s : State) (a : ℕ) (t : State) : Type 0 where
   pub met : MetAlone r s a t
   pub small : a < 4097
+  pub most : a ≤ n
 
 -- the three widths of an escaped number, whose parts and their sum are small
 pub record Widths (widths : List ℕ) : Type 0 where
   pub first : getD widths 0 0 ≤ 20
   pub second : getD widths 1 0 ≤ 20
   pub third : getD widths 2 0 ≤ 20
+
+-- widths of numbers that can be read
+abbrev pub Narrow : List ℕ → Type 0
+Narrow [] = Unit {0}
+Narrow (w ∷ ws) = (w ≤ 64) × Narrow ws

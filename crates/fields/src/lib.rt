@@ -11,10 +11,10 @@ ghost use lib.Seq.{sets};
 ghost use lib.Dec.{leb};
 ghost use Prim.Native.Nat.{_+_, _*_, _≤_, _<_, _^_};
 ghost use Rattle.rules.specs.Rule.{refused, bits, skip, setEnd, field};
-ghost use Rattle.rules.specs.Derived.{take, flag, isFull, parts, escaped, passiveBits, labelBytes, label, invalid, stop, demand, count, drcCount, entry};
+ghost use Rattle.rules.specs.Derived.{take, flag, isFull, parts, escaped, passiveBits, passiveValues, labelBytes, label, invalid, stop, demand, count, drcCount, entry};
 ghost use Rattle.rules.specs.Words.{wordsOf};
 ghost use Rattle.rules.specs.Met.{Met, MetByBytes, MetByWords, MetAlone, Sound};
-ghost use Rattle.fields.specs.Taken.{Took, TookBits, Numbered, Skipped, Counted, Widths};
+ghost use Rattle.fields.specs.Taken.{Took, TookBits, Numbered, Skipped, Counted, Widths, Narrow};
 
 // A number that was read, and the reading after it. If the reading has ended, the number says nothing.
 pub struct Taken {
@@ -246,6 +246,32 @@ pub fn passive_bits(words: &mut [u64], s: State, name: u64, width: usize) -> Sta
     field(words, t, name, s.position, FieldValue::Bits(width as u64))
 }
 
+// Numbers of these widths, their names `step` apart.
+pub fn passive_values(
+    bytes: &[u8],
+    words: &mut [u64],
+    s: State,
+    name: u64,
+    step: u64,
+    widths: &[usize],
+) -> State
+    requires { ⌜ Sound s ⌝ }
+    requires { ⌜ Narrow (now widths) ⌝ }
+    requires { ⌜ name + step * length (now widths) < 2 ^ 64 ⌝ }
+    ensures { λ r. ⌜ Met (passiveValues name step (now (widths .entry))) (now (bytes .entry)) (now (words .entry)) s tt r (now (words .exit)) ⌝ }
+{
+    let mut t = s;
+    let mut at = name;
+    let mut i: usize = 0;
+    while i < widths.len() {
+        let v = take(bytes, words, t, at, widths[i]);
+        t = v.state;
+        at += step;
+        i += 1;
+    }
+    t
+}
+
 // The bytes of a label up to its zero byte, at most 4,097: how many there are with it.
 fn label_bytes(bytes: &[u8], s: State) -> Taken
     requires { ⌜ Sound s ⌝ }
@@ -293,7 +319,7 @@ fn fits(n: u64, least: u64, left: u64) -> bool
 pub fn count(s: State, n: u64, least: u64) -> Taken
     requires { ⌜ Sound s ⌝ }
     requires { ⌜ least ≤ 4096 ⌝ }
-    ensures { λ r. ⌜ Counted (count n least) s (r .value) (r .state) ⌝ }
+    ensures { λ r. ⌜ Counted (count n least) n s (r .value) (r .state) ⌝ }
 {
     let ok = fits(n, least, (s.end - s.position) as u64);
     if ok {
@@ -315,7 +341,7 @@ pub fn drc_count(
     requires { ⌜ Sound s ⌝ }
     requires { ⌜ width ≤ 64 ⌝ }
     requires { ⌜ least ≤ 4096 ⌝ }
-    ensures { λ r. ⌜ Took (drcCount name width least) 4097 (now (bytes .entry)) (now (words .entry)) s (r .value) (r .state) (now (words .exit)) ⌝ }
+    ensures { λ r. ⌜ Took (drcCount name width least) (2 ^ width) (now (bytes .entry)) (now (words .entry)) s (r .value) (r .state) (now (words .exit)) ⌝ }
 {
     let n = take(bytes, words, s, name, width);
     let t = n.state;

@@ -1,11 +1,10 @@
-// Replays recorded answers of the Rust. Standard input holds records; each is run, and its answer, its field words
-// and the words after them are held to what the Rust gave.
-//
-// A record, its numbers big-endian: kind (1 byte: 0 for operations on one reading), recording (1), words lent (4),
-// offset (8), bytes of input (4), operations (2); then the answer: outcome (1: 0 read, 1 refused, 2 stopped), number
-// (1), position (8), fields (4); then the input, the operations, and five words of 8 bytes for each recorded field.
+// Replays recorded answers of the Rust. Standard input holds records; each is run, and its answer, its shapes, its field
+// words and the words after them are held to what the Rust gave. `oracle/README.md` says how a record is laid out: a head
+// of 34 bytes, the input, what is handed in, the shapes after the call, and the words of the recorded fields.
 use libc::STDIN_FILENO;
 use libc::STDOUT_FILENO;
+use position::PositionSyntax;
+use rules::Answer;
 use rules::Outcome;
 use rules::State;
 ghost use mathlib.Core.Path.{_≡_};
@@ -195,8 +194,7 @@ fn operations(bytes: &[u8], words: &mut [u64], s: State, n: u64) -> State
 }
 
 // Whether an answer is the recorded one.
-fn agrees(head: &[u8; 34], s: State) -> bool {
-    let answer = s.answer();
+fn agrees(head: &[u8; 34], answer: Answer) -> bool {
     let outcome = answer.outcome;
     let kind = number(head, 20, 1);
     let told = number(head, 21, 1);
@@ -242,25 +240,177 @@ fn wrong_words(words: &[u64], n: usize) -> usize {
     wrong
 }
 
-// Reads the input as the record says, from a fresh state.
-fn reading(head: &[u8; 34], bytes: &[u8], words: &mut [u64]) -> State
-    requires { ⌜ length (now bytes) ≤ 8388608 ⌝ }
-    ensures { λ r. ⌜ Sound r ⌝ }
-{
-    let recording = number(head, 1, 1) == 1;
-    let offset = number(head, 6, 8) as usize;
-    let n = number(head, 18, 2);
-    let s = State::fresh(recording, 0);
-    let t = fields::entry(bytes, s, 0, offset);
-    operations(bytes, words, t, n)
+// An answer, and whether the shapes after the call are the recorded ones.
+struct Ran {
+    answer: Answer,
+    same: bool,
 }
 
-// The words that a reading has recorded.
-fn written(s: State) -> usize
-    requires { ⌜ Sound s ⌝ }
+// The next count, of 2 bytes.
+fn next_count() -> usize {
+    let mut b = [0u8; 2];
+    io::read_full(STDIN_FILENO, &mut b);
+    number(&b, 0, 2) as usize
+}
+
+// The next shape: flags (1 byte: parent dynamic, range dynamic, polar from the lowest bit), three bytes of 0, the
+// precisions (4 each) and the parent (8).
+fn next_shape() -> PositionSyntax {
+    let mut b = [0u8; 20];
+    io::read_full(STDIN_FILENO, &mut b);
+    let flags = number(&b, 0, 1);
+    PositionSyntax {
+        parent_dynamic: flags % 2 == 1,
+        range_dynamic: flags / 2 % 2 == 1,
+        position_precision: number(&b, 4, 4) as usize,
+        rotation_precision: number(&b, 8, 4) as usize,
+        parent: number(&b, 12, 8) as usize,
+        polar: flags / 4 % 2 == 1,
+    }
+}
+
+// A shape beyond the declared ones, which no reading may look at: its precisions and its parent would be refused.
+fn undeclared() -> PositionSyntax {
+    PositionSyntax {
+        parent_dynamic: true,
+        range_dynamic: true,
+        position_precision: 100,
+        rotation_precision: 200,
+        parent: 300,
+        polar: true,
+    }
+}
+
+// The next `n` shapes, and undeclared ones after them.
+fn next_shapes(n: usize) -> [PositionSyntax; 63] {
+    let other = undeclared();
+    let mut shapes = [other; 63];
+    for i in 0..63 {
+        if i < n {
+            let shape = next_shape();
+            shapes[i] = shape;
+        }
+    }
+    shapes
+}
+
+fn same_shape(a: PositionSyntax, b: PositionSyntax) -> bool {
+    a.parent_dynamic == b.parent_dynamic
+        && a.range_dynamic == b.range_dynamic
+        && a.position_precision == b.position_precision
+        && a.rotation_precision == b.rotation_precision
+        && a.parent == b.parent
+        && a.polar == b.polar
+}
+
+// Whether the first `n` shapes are the next of the input, and the others those of `others`.
+fn same_shapes(shapes: [PositionSyntax; 63], n: usize, others: [PositionSyntax; 63]) -> bool {
+    let mut same = true;
+    for i in 0..63 {
+        let mut expected = others[i];
+        if i < n {
+            expected = next_shape();
+        }
+        let shape = shapes[i];
+        if !same_shape(shape, expected) {
+            same = false;
+        }
+    }
+    same
+}
+
+fn recording(head: &[u8; 34]) -> bool {
+    number(head, 1, 1) == 1
+}
+
+fn offset(head: &[u8; 34]) -> usize {
+    number(head, 6, 8) as usize
+}
+
+// How many operations or shapes are handed in, or whether a position is full.
+fn count(head: &[u8; 34]) -> usize {
+    number(head, 18, 2) as usize
+}
+
+// Operations on one reading, from a fresh state.
+fn run_fields(head: &[u8; 34], bytes: &[u8], words: &mut [u64]) -> Ran
+    requires { ⌜ length (now bytes) ≤ 8388608 ⌝ }
 {
-    if s.recording {
-        return 5 * s.fields;
+    let s = State::fresh(recording(head), 0);
+    let t = fields::entry(bytes, s, 0, offset(head));
+    let u = operations(bytes, words, t, count(head) as u64);
+    let answer = u.answer();
+    Ran { answer, same: true }
+}
+
+fn run_scene(head: &[u8; 34], bytes: &[u8], words: &mut [u64]) -> Ran {
+    let a = scene::read_scene(bytes, offset(head), recording(head), words);
+    let n = next_count();
+    let first = PositionSyntax::default();
+    let shapes = a.shapes;
+    let same = same_shapes(shapes, n, [first; 63]);
+    let answer = a.answer;
+    Ran {
+        answer,
+        same: same && a.count == n,
+    }
+}
+
+fn run_update(head: &[u8; 34], bytes: &[u8], words: &mut [u64]) -> Ran {
+    let n = count(head);
+    let before = next_shapes(n);
+    let a = update::graph_update(bytes, offset(head), recording(head), words, before, n);
+    let shapes = a.shapes;
+    let same = same_shapes(shapes, n, before);
+    let answer = a.answer;
+    Ran { answer, same }
+}
+
+fn run_position(head: &[u8; 34], bytes: &[u8], words: &mut [u64]) -> Ran {
+    let before = next_shape();
+    let full = count(head) == 1;
+    let a = position::read_position(bytes, offset(head), recording(head), words, before, full);
+    let shape = a.shape;
+    let same = same_shape(shape, next_shape());
+    let answer = a.answer;
+    Ran { answer, same }
+}
+
+// A validation, whose record has the position in the place of the offset.
+fn run_validation(head: &[u8; 34]) -> Ran {
+    let n = count(head);
+    let shapes = next_shapes(n);
+    let answer = validation::validate_graph(shapes, n, offset(head));
+    Ran { answer, same: true }
+}
+
+// A record of its kind: 0 operations, 1 scene, 2 update, 3 position, 4 validation.
+fn run_kind(head: &[u8; 34], bytes: &[u8], words: &mut [u64]) -> Ran
+    requires { ⌜ length (now bytes) ≤ 8388608 ⌝ }
+{
+    let kind = number(head, 0, 1);
+    if kind == 1 {
+        return run_scene(head, bytes, words);
+    }
+    if kind == 2 {
+        return run_update(head, bytes, words);
+    }
+    if kind == 3 {
+        return run_position(head, bytes, words);
+    }
+    if kind == 4 {
+        return run_validation(head);
+    }
+    run_fields(head, bytes, words)
+}
+
+// The words that a reading of so many fields has recorded; no reading has more than 16,384.
+fn written(recording: bool, fields: usize) -> usize {
+    if State::FIELDS < fields {
+        return 0;
+    }
+    if recording {
+        return 5 * fields;
     }
     0
 }
@@ -271,9 +421,10 @@ fn run(head: &[u8; 34], bytes: &mut [u8], words: &mut [u64]) -> bool
 {
     let got = io::read_full(STDIN_FILENO, bytes);
     clear(words);
-    let s = reading(head, bytes, words);
-    let wrong = wrong_words(words, written(s));
-    agrees(head, s) && got == bytes.len() && wrong == 0
+    let r = run_kind(head, bytes, words);
+    let answer = r.answer;
+    let wrong = wrong_words(words, written(recording(head), answer.fields));
+    agrees(head, answer) && r.same && got == bytes.len() && wrong == 0
 }
 
 // The greatest input and the most words of a record.
@@ -289,7 +440,7 @@ fn buffer() -> [u64; 98304]
     [0; 98304]
 }
 
-// One record, if there is one more: of kind 0, with an input and words for which there is room.
+// One record, if there is one more: of a known kind, with an input and words for which there is room.
 fn one(tally: Tally, bytes: &mut [u8], words: &mut [u64]) -> Tally
     requires { ⌜ length (now bytes) ≤ 8388608 ⌝ }
 {
@@ -300,7 +451,7 @@ fn one(tally: Tally, bytes: &mut [u8], words: &mut [u64]) -> Tally
     if got < 34 {
         return tally.ended(got == 0);
     }
-    if number(&head, 0, 1) != 0 {
+    if 4 < number(&head, 0, 1) {
         return tally.ended(false);
     }
     if bytes.len() < size {

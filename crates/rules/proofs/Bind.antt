@@ -1,6 +1,6 @@
 -- Law (a): a rule and then another is the one reading after the other. Law (b): an ended reading stays as it is.
 use Prim.Native.Nat.{ℕ, suc, _+_, _-_}
-use mathlib.Core.Path.{_≡_, refl, ap, _∙_}
+use mathlib.Core.Path.{_≡_, refl, ap, _∙_, fun-ext}
 use mathlib.Core.List.{List, _∷_, _++_}
 use mathlib.Core.Bool.{Bool, true, false}
 use native.Mathlib.Omega.{arith}
@@ -55,3 +55,27 @@ bind i (fieldThen name start v k) f p e n =
     (then-pick _ (hasRoom i n) n (refused 5) p e _ _
     (ap (with _) (bind i k f p e (n + 1)) ∙ with-after _ n _ _ _ (reading i k p e (n + 1) .fields) (reading i k p e (n + 1) .result)))
 bind i (setEndThen x k) f p e n = then-pick _ (inside i p x) n (refused 3) p e _ _ (bind i k f p x n)
+
+-- it does not matter how rules one after another are put together
+pub assoc : {A B C : Type 0} (r : Rule A) (f : A → Rule B) (g : B → Rule C) → r >>= f >>= g ≡ r >>= (λ a. f a >>= g)
+unfolding _>>=_
+assoc (done a) f g = refl
+assoc (ends x) f g = refl
+assoc (positionThen k) f g = ap positionThen (fun-ext (λ v. assoc (k v) f g))
+assoc (endThen k) f g = ap endThen (fun-ext (λ v. assoc (k v) f g))
+assoc (bitsThen w k) f g = ap (bitsThen w) (fun-ext (λ v. assoc (k v) f g))
+assoc (skipThen w k) f g = ap (skipThen w) (assoc k f g)
+assoc (fieldThen name start v k) f g = ap (fieldThen name start v) (assoc k f g)
+assoc (setEndThen x k) f g = ap (setEndThen x) (assoc k f g)
+
+-- and a rule whose value is handed on is that rule
+pub bind-done : {A : Type 0} (r : Rule A) → r >>= (λ a. done a) ≡ r
+unfolding _>>=_
+bind-done (done a) = refl
+bind-done (ends x) = refl
+bind-done (positionThen k) = ap positionThen (fun-ext (λ v. bind-done (k v)))
+bind-done (endThen k) = ap endThen (fun-ext (λ v. bind-done (k v)))
+bind-done (bitsThen w k) = ap (bitsThen w) (fun-ext (λ v. bind-done (k v)))
+bind-done (skipThen w k) = ap (skipThen w) (bind-done k)
+bind-done (fieldThen name start v k) = ap (fieldThen name start v) (bind-done k)
+bind-done (setEndThen x k) = ap (setEndThen x) (bind-done k)

@@ -4,3 +4,5 @@ pub mod Bind
 pub mod Forward
 pub mod Laws
 pub mod Left
+pub mod Each
+pub mod Answers

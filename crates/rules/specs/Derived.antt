@@ -54,6 +54,21 @@ passiveBits name w =
       skip w
       field name start (Bits w))
 
+-- `passive_values`, and the loops over widths in `position`: numbers of these widths, their names `step` apart
+unfoldable pub passiveValues : ℕ → ℕ → List ℕ → Rule (Unit {0})
+passiveValues name step [] = done tt
+passiveValues name step (w ∷ ws) = do
+  take name w
+  passiveValues (name + step) step ws
+
+-- `for (i, x) in list.iter_mut().enumerate()`: each value is replaced by what its rule gives, the first being number `i`
+unfoldable pub each : {A : Type 0} → (ℕ → A → Rule A) → ℕ → List A → Rule (List A)
+each f i [] = done []
+each f i (x ∷ xs) = do
+  y ← f i x
+  ys ← each f (i + 1) xs
+  done (y ∷ ys)
+
 -- the bytes of a label, of which `n` are read and at most `k` follow: how many there are with the zero byte
 unfoldable pub labelBytes : ℕ → ℕ → Rule ℕ
 labelBytes zero n = ends (refused 17)

@@ -4,3 +4,4 @@ pub mod Reading
 pub mod Derived
 pub mod Words
 pub mod Met
+pub mod Answer

@@ -6,6 +6,13 @@ use Prim.Native.Nat.{ℕ, _+_, _*_, _^_}
 abbrev pub prefix : ℕ → ℕ → ℕ → ℕ
 prefix block i j = 256 * block + 2 ^ 12 * i + 2 ^ 25 * j
 
+-- one more in the first and in the second index of a leaf
+abbrev pub third : ℕ
+third = 2 ^ 38
+
+abbrev pub fourth : ℕ
+fourth = 2 ^ 51
+
 -- a leaf of it
 abbrev pub named : ℕ → ℕ → ℕ → ℕ → ℕ
-named p leaf k m = p + leaf + 2 ^ 38 * k + 2 ^ 51 * m
+named p leaf k m = p + leaf + third * k + fourth * m

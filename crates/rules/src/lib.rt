@@ -1,6 +1,5 @@
 // The reading state by value, the fields that a reading makes, and the answer that it comes to.
 ghost use mathlib.Core.Path.{_≡_};
-ghost use Prim.Native.Nat.{_+_, _<_};
 ghost use Rattle.rules.specs.Reading.{isRead};
 ghost use Rattle.rules.specs.Words.{kindOf, numberOf, isValue, valueFrom, fieldAt};
 
@@ -56,6 +55,9 @@ impl State {
 
     // The greatest number of bytes of an input: `MAX_COOKIE_BYTES`.
     pub const BYTES: usize = 8388608;
+
+    // The greatest number of positions.
+    pub const POSITIONS: usize = 63;
 
     // The greatest count of things declared.
     pub const COUNT: u64 = 4096;
@@ -180,6 +182,9 @@ impl FieldValue {
 }
 
 impl Field {
+    // One more in the first index of a leaf: the names of a list of fields are so far apart.
+    pub const THIRD: u64 = 274877906944;
+
     // The field of that index in recorded words, by value.
     pub fn at(words: &[u64], index: usize) -> Found
         ensures { λ r. ⌜ r ≡ fieldAt (now (words .entry)) index ⌝ }

@@ -36,6 +36,7 @@ const FINDINGS: [(u64, &str); 3] = [
 
 pub fn boundaries(batch: &mut Batch<'_>) {
     examples(batch);
+    findings(batch);
     extensions(batch);
     shapes(batch);
     labels(batch);
@@ -57,7 +58,8 @@ fn bytes(hex: &str) -> Vec<u8> {
     unhex(hex).expect("digits of the generator")
 }
 
-fn examples(batch: &mut Batch<'_>) {
+/// The scenes of document 01, and its packets against the shapes that its show goes through.
+pub fn examples(batch: &mut Batch<'_>) {
     for hex in ["-", "00", "04", "04000400", "04000000", "0a0080800080"] {
         let bits = Bits::from(bytes(hex).as_slice());
         let question = Question::Scene;
@@ -76,6 +78,9 @@ fn examples(batch: &mut Batch<'_>) {
             batch.every_offset(&Good { question, bits });
         }
     }
+}
+
+fn findings(batch: &mut Batch<'_>) {
     for (offset, hex) in FINDINGS {
         let bytes = bytes(hex);
         batch.call(&Question::Metadata, Input { offset, bytes }, Record::Ample);
@@ -86,10 +91,8 @@ fn examples(batch: &mut Batch<'_>) {
 fn extensions(batch: &mut Batch<'_>) {
     for count in [0, 1, EXTENSIONS - 1, EXTENSIONS, EXTENSIONS + 1] {
         for full in [true, false] {
-            let shape = dynamic();
-            let bits = drafted(batch.rng, |d| write_largest(d, full, count));
-            let question = Question::Position { full, shape };
-            batch.every_offset(&Good { question, bits });
+            let good = extended_position(batch.rng, full, count);
+            batch.every_offset(&good);
         }
         for good in extended(batch.rng, count) {
             batch.every_offset(&good);
@@ -106,17 +109,18 @@ fn dynamic() -> Shape {
     }
 }
 
-/// A position with so many extensions in a scene, in an update, in both kinds of parameter.
+/// A position with so many extensions, called alone.
+pub fn extended_position(rng: &mut Rng, full: bool, count: usize) -> Good {
+    let shape = dynamic();
+    let bits = drafted(rng, |d| write_largest(d, full, count));
+    let question = Question::Position { full, shape };
+    Good { question, bits }
+}
+
+/// Such a position in a scene, in an update, in both kinds of parameter.
 fn extended(rng: &mut Rng, count: usize) -> [Good; 4] {
     let position = drafted(rng, |d| write_largest(d, true, count));
-    let scene = drafted(rng, |d| {
-        d.put(1, 6);
-        d.append(&position);
-    });
-    let update = drafted(rng, |d| {
-        d.flag(true);
-        write_largest(d, false, count);
-    });
+    let [scene, update] = extended_graphs(rng, &position, count);
     let global = drafted(rng, |d| {
         d.esc(11, ESC);
         d.append(&position);
@@ -126,21 +130,36 @@ fn extended(rng: &mut Rng, count: usize) -> [Good; 4] {
         d.append(&position);
     });
     [
-        Good {
-            question: Question::Scene,
-            bits: scene,
-        },
-        Good {
-            question: Question::Update(vec![dynamic()]),
-            bits: update,
-        },
+        scene,
+        update,
         Metadata::with_parameters(vec![global]).good(rng),
         Metadata::with_renderer(rng, &[rendered]).good(rng),
     ]
 }
 
+/// A scene of one full position, and an update of one with so many extensions.
+pub fn extended_graphs(rng: &mut Rng, position: &Bits, count: usize) -> [Good; 2] {
+    let scene = drafted(rng, |d| {
+        d.put(1, 6);
+        d.append(position);
+    });
+    let update = drafted(rng, |d| {
+        d.flag(true);
+        write_largest(d, false, count);
+    });
+    graphs(scene, update, 1)
+}
+
+/// A scene, and an update of so many shapes that may change.
+fn graphs(scene: Bits, update: Bits, count: usize) -> [Good; 2] {
+    let shapes = vec![dynamic(); count];
+    let scene = (Question::Scene, scene);
+    let update = (Question::Update(shapes), update);
+    [scene, update].map(|(question, bits)| Good { question, bits })
+}
+
 /// The greatest count of shapes and the greatest precision, and one more.
-fn shapes(batch: &mut Batch<'_>) {
+pub fn shapes(batch: &mut Batch<'_>) {
     let input = Input::from([0; 9].as_slice());
     for count in [0, 1, GREATEST_COUNT, GREATEST_COUNT + 1, 70] {
         let question = Question::Update(vec![Shape::default(); count]);
@@ -342,21 +361,23 @@ fn long_tables(rng: &mut Rng, kinds: &[u64]) -> Good {
     metadata.good(rng)
 }
 
-/// 63 positions of the most fields; the last has 31 or 32 extensions.
 fn most_fields(batch: &mut Batch<'_>) {
     for last in [EXTENSIONS - 1, EXTENSIONS] {
-        let scene = drafted(batch.rng, |d| {
-            d.put(GREATEST_COUNT as u64, 6);
-            write_most(d, true, last);
-        });
-        let update = drafted(batch.rng, |d| write_most(d, false, last));
-        let shapes = vec![dynamic(); GREATEST_COUNT];
-        for (question, bits) in [(Question::Scene, scene), (Question::Update(shapes), update)] {
-            let good = Good { question, bits };
+        for good in fullest(batch.rng, last) {
             batch.rooms_near(&good);
             batch.at(&good, 5, Record::Off);
         }
     }
+}
+
+/// 63 positions of the most fields; the last has so many extensions, 31 or 32.
+pub fn fullest(rng: &mut Rng, last: usize) -> [Good; 2] {
+    let scene = drafted(rng, |d| {
+        d.put(GREATEST_COUNT as u64, 6);
+        write_most(d, true, last);
+    });
+    let update = drafted(rng, |d| write_most(d, false, last));
+    graphs(scene, update, GREATEST_COUNT)
 }
 
 fn write_most(d: &mut Draft<'_>, full: bool, last: usize) {

@@ -21,6 +21,7 @@ use crate::rng::Rng;
 use batch::Batch;
 use metadata::Metadata;
 use std::io::{self, Write};
+use std::ops::RangeInclusive;
 use variants::Good;
 
 /// The most fields of an input that is asked for with every cut or room.
@@ -49,6 +50,9 @@ const RANDOM: [Part; 6] = [
     scripts::scripts,
 ];
 
+/// The sample that is stored in the repository.
+const SAMPLE: [Part; 2] = [sample::scripts, sample::readings];
+
 pub fn generate(seed: u64, scale: u64, out: &mut impl Write) -> io::Result<()> {
     let mut rng = Rng::new(seed);
     write_parts(&FIXED, &mut rng, out)?;
@@ -57,7 +61,7 @@ pub fn generate(seed: u64, scale: u64, out: &mut impl Write) -> io::Result<()> {
 
 /// The requests of the sample that is stored in the repository.
 pub fn sample(seed: u64, out: &mut impl Write) -> io::Result<()> {
-    write_parts(&[sample::sample], &mut Rng::new(seed), out)
+    write_parts(&SAMPLE, &mut Rng::new(seed), out)
 }
 
 fn write_parts(parts: &[Part], rng: &mut Rng, out: &mut impl Write) -> io::Result<()> {
@@ -93,9 +97,14 @@ fn scenes_and_updates(batch: &mut Batch<'_>) {
 
 /// A draft of few fields, so that all its cuts and rooms can be asked for.
 fn small(rng: &mut Rng, draft: fn(&mut Rng) -> Good) -> Good {
+    of_fields(rng, draft, 0..=SMALL)
+}
+
+/// A draft of so many fields.
+fn of_fields(rng: &mut Rng, draft: fn(&mut Rng) -> Good, fields: RangeInclusive<usize>) -> Good {
     loop {
         let good = draft(rng);
-        if good.fields().len() <= SMALL {
+        if fields.contains(&good.fields().len()) {
             return good;
         }
     }

@@ -13,6 +13,10 @@ pub const EXTENSIONS: usize = 32;
 
 pub fn scene(rng: &mut Rng) -> Good {
     let count = some_count(rng);
+    scene_of(rng, count)
+}
+
+pub fn scene_of(rng: &mut Rng, count: usize) -> Good {
     let parents = some_parents(rng, count);
     let bits = drafted(rng, |d| write_scene(d, &parents));
     Good {
@@ -23,6 +27,10 @@ pub fn scene(rng: &mut Rng) -> Good {
 
 pub fn update(rng: &mut Rng) -> Good {
     let shapes = some_shapes(rng);
+    update_of(rng, shapes)
+}
+
+pub fn update_of(rng: &mut Rng, shapes: Vec<Shape>) -> Good {
     let parents = some_parents(rng, shapes.len());
     let bits = drafted(rng, |d| write_update(d, &shapes, &parents));
     Good {
@@ -177,6 +185,10 @@ fn some_count(rng: &mut Rng) -> usize {
 
 pub fn some_shapes(rng: &mut Rng) -> Vec<Shape> {
     let count = some_count(rng);
+    shapes_of(rng, count)
+}
+
+pub fn shapes_of(rng: &mut Rng, count: usize) -> Vec<Shape> {
     let parents = some_parents(rng, count);
     let with = |parent| Shape {
         parent: parent as usize,

@@ -112,15 +112,69 @@ fn lines_can_be_read_back() {
     }
 }
 
-/// The records of the sample with seed 1.
-fn sample() -> Vec<Vec<u8>> {
-    let stored = |request| record(request).expect("an answer").expect("a script");
-    requests(super::sample::sample).iter().map(stored).collect()
+/// The requests of the sample with seed 1.
+fn sample() -> Vec<Request> {
+    let rng = &mut Rng::new(1);
+    let mut batch = Batch::new(rng);
+    super::SAMPLE.iter().for_each(|part| part(&mut batch));
+    batch.requests
 }
 
 #[test]
 fn sample_is_bounded() {
-    let records = sample();
-    assert!((2_000..=4_000).contains(&records.len()));
-    assert!(records.concat().len() <= 400_000);
+    let requests = sample();
+    let size = |request| {
+        record(request)
+            .expect("an answer")
+            .expect("a kind with records")
+            .len()
+    };
+    assert!((5_000..=8_000).contains(&requests.len()));
+    assert!(requests.iter().map(size).sum::<usize>() <= 1_300_000);
+}
+
+/// The numbers that each kind can end in. 1 would take an input of 8 MiB, and 4 more fields than
+/// these readings have.
+const NUMBERS: [(&str, &[u8]); 4] = [
+    ("scene", &[0, 3, 5, 6, 7, 8, 9]),
+    ("update", &[0, 2, 3, 5, 7, 8, 9]),
+    ("position", &[0, 2, 3, 5, 7]),
+    ("validation", &[0, 2, 8, 9]),
+];
+
+#[test]
+fn sample_reaches_every_number() {
+    let answers: Vec<Answer> = sample().iter().map(answer).collect();
+    for (kind, numbers) in NUMBERS {
+        let of_kind = answers.iter().filter(|answer| answer.kind == kind);
+        let found: Vec<u8> = of_kind.map(|answer| answer.verdict.number).collect();
+        let times = |number| found.iter().filter(|&&n| n == number).count();
+        assert!(numbers.iter().all(|&number| times(number) >= 5), "{kind}");
+        assert!(found.iter().all(|n| numbers.contains(n)), "{kind}");
+    }
+    let widest = |answer: &Answer| answer.kind == "scene" && answer.shapes.len() == 63;
+    assert!(answers.iter().any(widest));
+}
+
+/// Document 01's scenes, and the updates of its show against the shapes that each part left.
+#[test]
+fn sample_has_the_examples() {
+    let calls: Vec<String> = sample().iter().map(from_the_first_bit).collect();
+    let asked = |call: String| calls.contains(&call);
+    for hex in ["-", "00", "04", "04000400", "04000000", "0a0080800080"] {
+        assert!(asked(format!("scene {hex}")), "{hex}");
+    }
+    let (before, freed) = ("1:0:0:0:0:0,1:0:0:0:1:0", "1:0:0:0:0:0,1:0:0:0:0:0");
+    for (shapes, hex) in [(before, "c100"), (before, "70"), (freed, "c100")] {
+        assert!(asked(format!("update {shapes} {hex}")), "{shapes} {hex}");
+    }
+}
+
+/// A request line without offset, recording and room; empty if it has another offset.
+fn from_the_first_bit(request: &Request) -> String {
+    let line = request.to_string();
+    match line.split(' ').collect::<Vec<_>>().as_slice() {
+        [kind, "0", _, _, rest @ ..] => format!("{kind} {}", rest.join(" ")),
+        _ => String::new(),
+    }
 }

@@ -5,13 +5,15 @@ use crate::driver::GREATEST_COUNT;
 use crate::request::Shape;
 use crate::rng::Rng;
 
-/// Up to this count every list of parents is asked for.
-const SMALL: usize = 4;
 const ROUNDS: usize = 6_000;
 
-/// Every list of up to four parents, each up to one more than the count.
 pub fn small(batch: &mut Batch<'_>) {
-    for count in 0..=SMALL {
+    every_list(batch, 4);
+}
+
+/// Every list of up to so many parents, each up to one more than the count.
+pub fn every_list(batch: &mut Batch<'_>, most: usize) {
+    for count in 0..=most {
         let base = count + 2;
         for index in 0..base.pow(count as u32) {
             let digit = |i: usize| index / base.pow(i as u32) % base;
@@ -22,17 +24,19 @@ pub fn small(batch: &mut Batch<'_>) {
 }
 
 pub fn random(batch: &mut Batch<'_>) {
-    for _ in 0..ROUNDS {
-        let count = some_count(batch.rng);
-        let parents = some_parents(batch.rng, count);
-        let mut shapes: Vec<Shape> = parents.into_iter().map(|p| hung(p as usize)).collect();
-        if count > 0 && batch.rng.percent(30) {
-            let one = batch.rng.below(count as u64) as usize;
-            shapes[one] = some_hung(batch.rng, count);
-        }
-        let at = batch.rng.pick(&[0, 1, 48, 67_108_864, u64::MAX]);
-        batch.validation(at, shapes);
+    (0..ROUNDS).for_each(|_| some_list(batch));
+}
+
+pub fn some_list(batch: &mut Batch<'_>) {
+    let count = some_count(batch.rng);
+    let parents = some_parents(batch.rng, count);
+    let mut shapes: Vec<Shape> = parents.into_iter().map(|p| hung(p as usize)).collect();
+    if count > 0 && batch.rng.percent(30) {
+        let one = batch.rng.below(count as u64) as usize;
+        shapes[one] = some_hung(batch.rng, count);
     }
+    let at = batch.rng.pick(&[0, 1, 48, 67_108_864, u64::MAX]);
+    batch.validation(at, shapes);
 }
 
 /// Few or many positions, rarely more than there may be.

@@ -32,6 +32,7 @@ returns c =
     record {
       met = for-both (λ bs ws. first-remaining _ (search needs) (demand-kept _ _ (sym e ∙ q) (last (search needs))));
       small = within _ _ e q;
+      most = omega arith;
     }
 
 invalid-requires : tie.Need-invalid-requires
@@ -45,6 +46,7 @@ returns-2 c =
       met = for-both (λ bs ws.
           first-remaining _ (search needs) (demand-broken _ _ (sym e ∙ c .before .if1 .left) (c .invalid .ensures .met bs ws)));
       small = omega arith;
+      most = omega arith;
     }
 
 pub count-spec : {M : Type 1} → statement M

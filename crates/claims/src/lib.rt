@@ -1,0 +1,1 @@
+// Demand 3, as one claim: it stands in specs/ and proofs/. There is no code here.

@@ -1,0 +1,15 @@
+use borrow.Author.Needs.{needs}
+use Rattle.gateway.proofs.gateway_validation.Statement.{statement}
+use Rattle.gateway.proofs.gateway_validation.Tie as tie
+
+validate-graph-requires : tie.Need-validate-graph-requires
+validate-graph-requires c κs = search needs
+
+exported-requires : tie.Need-exported-requires
+exported-requires c κs = search needs
+
+returns : tie.Need-returns
+returns c = rw (c .exported .ensures, c .before .validate-graph .ensures)
+
+pub gateway-validation-spec : {M : Type 1} → statement M
+gateway-validation-spec = tie.close (tie.spec validate-graph-requires exported-requires returns)

@@ -1,0 +1,3 @@
+pub mod Loops
+pub mod Narrow
+pub mod Entries

@@ -1,0 +1,22 @@
+-- A position reading called alone.
+use Prim.Native.Nat.{ℕ}
+use mathlib.Core.Bool.{Bool, _&&_}
+use lib.Dec.{leb}
+use Rattle.rules.specs.Name.{prefix}
+use Rattle.rules.specs.Rule.{pick}
+use Rattle.rules.specs.Reading.{Reading, Input}
+use Rattle.rules.specs.Answer.{entryReading}
+use Rattle.position.specs.declared.PositionSyntax.{PositionSyntax}
+use Rattle.position.specs.Position.{position}
+
+-- no precision above 24
+abbrev pub isShaped : PositionSyntax → Bool
+isShaped sh = leb (sh .«position_precision») 24 && leb (sh .«rotation_precision») 24
+
+-- question 2 of an update, asked of one shape: 0 if it is met
+abbrev pub shapeQuestion : PositionSyntax → ℕ
+shapeQuestion sh = pick (isShaped sh) 0 2
+
+-- full or not, with the names of the first position of a scene
+abbrev pub positionReading : Input → ℕ → PositionSyntax → Bool → Reading PositionSyntax
+positionReading i offset sh full = entryReading i (shapeQuestion sh) offset (position (prefix 2 0 0) sh full)

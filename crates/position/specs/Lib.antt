@@ -1,0 +1,5 @@
+pub mod Shape
+pub mod Leaf
+pub mod Position
+pub mod Formed
+pub mod Entry

@@ -1,0 +1,162 @@
+-- `position`: the field rules of one position, full or of an update, whose names begin with the word `p`.
+use Prim.Native.Nat.{ℕ, zero, suc, _+_, _-_, _*_, min}
+use mathlib.Core.List.{List, [], _∷_, map}
+use mathlib.Core.Bool.{Bool, true, false, _&&_}
+use lib.Dec.{eqb}
+use lib.ListN.{take as takeN}
+use Rattle.rules.specs.Name.{third}
+use Rattle.rules.specs.Rule.{Rule, done, _>>=_, _>>_, pick}
+use Rattle.rules.specs.Derived.{take, flag, passiveBits, passiveValues, invalid}
+use Rattle.position.specs.declared.PositionSyntax.{PositionSyntax}
+use Rattle.position.specs.Shape.{withDynamics, withPrecisions, withParent, withPolar}
+use Rattle.position.specs.Leaf as leaf
+
+-- a precision: twice its field, at most 24
+abbrev pub precisionOf : ℕ → ℕ
+precisionOf v = min (v * 2) 24
+
+-- `if full { .. }`: the two flags, the two precisions
+unfoldable pub dynamics : ℕ → PositionSyntax → Rule PositionSyntax
+dynamics p sh = do
+  parent ← flag (p + leaf.parentDynamic)
+  range ← flag (p + leaf.rangeDynamic)
+  done (withDynamics sh parent range)
+
+unfoldable pub precisions : ℕ → PositionSyntax → Rule PositionSyntax
+precisions p sh = do
+  position ← take (p + leaf.positionPrecisionEncoded) 4
+  rotation ← take (p + leaf.rotationPrecisionEncoded) 4
+  done (withPrecisions sh (precisionOf position) (precisionOf rotation))
+
+unfoldable pub header : ℕ → PositionSyntax → Bool → Rule PositionSyntax
+header p sh full =
+    pick full
+    (do
+      a ← dynamics p sh
+      precisions p a)
+    (done sh)
+
+-- `full || (dynamic && self.flag(name)?)`
+unfoldable pub changed : ℕ → Bool → Bool → Rule Bool
+changed name dynamic full = pick full (done true) (pick dynamic (flag name) (done false))
+
+-- the parent: none if it is absolute, or an index, of which 0 is none too
+unfoldable pub newParent : ℕ → PositionSyntax → Rule PositionSyntax
+newParent p sh = do
+  absolute ← flag (p + leaf.absoluteParent)
+  pick absolute
+      (done (withParent sh 0))
+      (do
+        index ← take (p + leaf.parentIndex) 6
+        done (withParent sh index))
+
+unfoldable pub parent : ℕ → PositionSyntax → Bool → Rule PositionSyntax
+parent p sh full = do
+  there ← changed (p + leaf.parentUpdate) (sh .«parent_dynamic») full
+  pick there (newParent p sh) (done sh)
+
+unfoldable pub range : ℕ → Bool → Bool → Rule (Unit {0})
+range p dynamic full = do
+  there ← changed (p + leaf.rangeUpdate) dynamic full
+  pick there
+      (do
+        take (p + leaf.rangeEncoded) 4
+        done tt)
+      (done tt)
+
+-- a flag that is read unless `known`, when it is `value`: `!full && self.flag(name)?`, and `if !delta { .. }`
+unfoldable pub flagUnless : ℕ → Bool → Bool → Rule Bool
+flagUnless name known value = pick known (done value) (flag name)
+
+-- `base + precision - if delta { 4 } else { 0 }`
+abbrev pub widthOf : ℕ → ℕ → Bool → ℕ
+widthOf base precision delta = base + precision - pick delta 4 0
+
+-- `if shape.polar { [7, 6, 5] } else { [6; 3] }`
+abbrev pub bases : Bool → List ℕ
+bases polar = pick polar (7 ∷ 6 ∷ 5 ∷ []) (6 ∷ 6 ∷ 6 ∷ [])
+
+-- how many of them are read: not the third polar one of a delta at precision 0
+abbrev pub howMany : Bool → ℕ → Bool → ℕ
+howMany polar precision delta = pick (delta && (polar && eqb precision 0)) 2 3
+
+abbrev pub widthsOf : List ℕ → ℕ → Bool → List ℕ
+widthsOf bases precision delta = map (λ base. widthOf base precision delta) bases
+
+unfoldable pub coordinateValues : ℕ → Bool → ℕ → Bool → Rule (Unit {0})
+coordinateValues p polar precision delta =
+    passiveValues (p + leaf.positionEncoded) third (takeN (howMany polar precision delta) (widthsOf (bases polar) precision delta))
+
+-- `if self.flag(position_present)? { .. }`
+unfoldable pub coordinates : ℕ → PositionSyntax → Bool → Rule PositionSyntax
+coordinates p sh full = do
+  delta ← flagUnless (p + leaf.positionDelta) full false
+  polar ← flagUnless (p + leaf.polar) delta (sh .polar)
+  coordinateValues p polar (sh .«position_precision») delta
+  done (withPolar sh polar)
+
+unfoldable pub coordinatesIfPresent : ℕ → PositionSyntax → Bool → Rule PositionSyntax
+coordinatesIfPresent p sh full = do
+  there ← flag (p + leaf.positionPresent)
+  pick there (coordinates p sh full) (done sh)
+
+-- `if self.flag(rotation_present)? { .. }`
+unfoldable pub rotationValues : ℕ → ℕ → Bool → Rule (Unit {0})
+rotationValues p precision delta = passiveValues (p + leaf.rotationEncoded) third (widthsOf (8 ∷ 8 ∷ 8 ∷ 8 ∷ []) precision delta)
+
+unfoldable pub rotation : ℕ → ℕ → Bool → Rule (Unit {0})
+rotation p precision full = do
+  there ← flag (p + leaf.rotationPresent)
+  pick there
+      (do
+        delta ← flagUnless (p + leaf.rotationDelta) full false
+        rotationValues p precision delta)
+      (done tt)
+
+-- what follows the type of an extension, whose names begin with `q`
+unfoldable pub extensionBody : ℕ → Rule (Unit {0})
+extensionBody q = do
+  w ← take (q + leaf.lengthWidthMinusFour) 4
+  n ← take (q + leaf.bitsMinusOne) (w + 4)
+  passiveBits (q + leaf.payload) (n + 1)
+
+-- one extension, and whether more may follow: type 0 is the last
+unfoldable pub extension : ℕ → Rule Bool
+extension q = do
+  type ← take (q + leaf.extensionType) 4
+  pick (eqb type 0)
+      (done false)
+      (do
+        extensionBody q
+        done true)
+
+-- at most `k` extensions, the last of type 0: without it 7, and no type is read after the last
+unfoldable pub extensions : ℕ → ℕ → Rule (Unit {0})
+extensions zero q = invalid 7
+extensions (suc k) q = do
+  more ← extension q
+  pick more (extensions k (q + third)) (done tt)
+
+unfoldable pub extensionsIfPresent : ℕ → Rule (Unit {0})
+extensionsIfPresent p = do
+  there ← flag (p + leaf.extensionsPresent)
+  pick there (extensions 32 p) (done tt)
+
+-- the shape as far as the range, and what follows it
+unfoldable pub beforeRange : ℕ → PositionSyntax → Bool → Rule PositionSyntax
+beforeRange p sh full = do
+  a ← header p sh full
+  parent p a full
+
+unfoldable pub afterRange : ℕ → PositionSyntax → Bool → Rule PositionSyntax
+afterRange p sh full = do
+  a ← coordinatesIfPresent p sh full
+  rotation p (a .«rotation_precision») full
+  extensionsIfPresent p
+  done a
+
+unfoldable pub position : ℕ → PositionSyntax → Bool → Rule PositionSyntax
+position p sh full = do
+  a ← beforeRange p sh full
+  range p (a .«range_dynamic») full
+  afterRange p a full

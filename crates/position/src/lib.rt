@@ -1,0 +1,720 @@
+// The passive syntax of one scene position: passive.rs, `position`. Coordinates stay encoded.
+use fields::Flagged;
+use rules::Answer;
+use rules::Field;
+use rules::State;
+ghost use mathlib.Core.Path.{_≡_};
+ghost use Prim.Native.Nat.{_≤_, _<_, _^_};
+ghost use lib.ListN.{length};
+ghost use Rattle.rules.specs.Name.{prefix};
+ghost use Rattle.rules.specs.Rule.{pick};
+ghost use Rattle.rules.specs.Reading.{isRead};
+ghost use Rattle.rules.specs.Answer.{inputOf, entryThen, Answered};
+ghost use Rattle.rules.specs.Met.{Met, Sound};
+ghost use Rattle.position.specs.Shape.{default, withDynamics, withPrecisions, withParent, withPolar};
+ghost use Rattle.position.specs.Position.{precisionOf, dynamics, precisions, header, changed, newParent, parent, range, flagUnless, widthOf, bases, howMany, widthsOf, coordinateValues, coordinates, coordinatesIfPresent, rotationValues, rotation, extensionBody, extension, extensions, extensionsIfPresent, beforeRange, afterRange, position};
+ghost use Rattle.position.specs.Entry.{isShaped, shapeQuestion, positionReading};
+ghost use Rattle.position.specs.Formed.{Shaped, Formed, Remade};
+
+// The encoding shape of one scene position.
+#[repr(C)]
+pub struct PositionSyntax {
+    pub parent_dynamic: bool,
+    pub range_dynamic: bool,
+    pub position_precision: usize,
+    pub rotation_precision: usize,
+    pub parent: usize,
+    pub polar: bool,
+}
+
+// A shape that was read, and the reading after it.
+pub struct TakenShape {
+    pub state: State,
+    pub shape: PositionSyntax,
+}
+
+// What a position reading called alone answers: the shape is as it came unless it was read.
+pub struct PositionAnswer {
+    pub answer: Answer,
+    pub shape: PositionSyntax,
+}
+
+// The leaves of a position's names (docs/FIELDS.md).
+const PARENT_DYNAMIC: u64 = 2;
+
+const RANGE_DYNAMIC: u64 = 3;
+
+const POSITION_PRECISION_ENCODED: u64 = 4;
+
+const ROTATION_PRECISION_ENCODED: u64 = 5;
+
+const PARENT_UPDATE: u64 = 6;
+
+const ABSOLUTE_PARENT: u64 = 7;
+
+const PARENT_INDEX: u64 = 8;
+
+const RANGE_UPDATE: u64 = 9;
+
+const RANGE_ENCODED: u64 = 10;
+
+const POSITION_PRESENT: u64 = 11;
+
+const POSITION_DELTA: u64 = 12;
+
+const POLAR: u64 = 13;
+
+const POSITION_ENCODED: u64 = 14;
+
+const ROTATION_PRESENT: u64 = 15;
+
+const ROTATION_DELTA: u64 = 16;
+
+const ROTATION_ENCODED: u64 = 17;
+
+const EXTENSIONS_PRESENT: u64 = 18;
+
+const EXTENSION_TYPE: u64 = 19;
+
+const LENGTH_WIDTH_MINUS_FOUR: u64 = 20;
+
+const BITS_MINUS_ONE: u64 = 21;
+
+const PAYLOAD: u64 = 22;
+
+impl PositionSyntax {
+    // The shape before anything is read.
+    pub fn default() -> PositionSyntax
+        ensures { λ r. ⌜ r ≡ default ⌝ }
+    {
+        PositionSyntax {
+            parent_dynamic: false,
+            range_dynamic: false,
+            position_precision: 0,
+            rotation_precision: 0,
+            parent: 0,
+            polar: false,
+        }
+    }
+
+    // Whether no precision is above 24.
+    pub fn is_shaped(self) -> bool
+        ensures { λ r. ⌜ r ≡ isShaped self ⌝ }
+    {
+        if self.position_precision <= 24 {
+            return self.rotation_precision <= 24;
+        }
+        false
+    }
+
+    fn with_dynamics(self, parent: bool, range: bool) -> PositionSyntax
+        ensures { λ r. ⌜ r ≡ withDynamics self parent range ⌝ }
+    {
+        PositionSyntax {
+            parent_dynamic: parent,
+            range_dynamic: range,
+            position_precision: self.position_precision,
+            rotation_precision: self.rotation_precision,
+            parent: self.parent,
+            polar: self.polar,
+        }
+    }
+
+    // The precisions of two encoded ones.
+    fn with_precisions(self, position: u64, rotation: u64) -> PositionSyntax
+        ensures { λ r. ⌜ Remade r (withPrecisions self (precisionOf position) (precisionOf rotation)) ⌝ }
+    {
+        let a = precision(position);
+        let b = precision(rotation);
+        PositionSyntax {
+            parent_dynamic: self.parent_dynamic,
+            range_dynamic: self.range_dynamic,
+            position_precision: a,
+            rotation_precision: b,
+            parent: self.parent,
+            polar: self.polar,
+        }
+    }
+
+    fn with_parent(self, parent: usize) -> PositionSyntax
+        requires { ⌜ Shaped self ⌝ }
+        ensures { λ r. ⌜ Remade r (withParent self parent) ⌝ }
+    {
+        PositionSyntax {
+            parent_dynamic: self.parent_dynamic,
+            range_dynamic: self.range_dynamic,
+            position_precision: self.position_precision,
+            rotation_precision: self.rotation_precision,
+            parent,
+            polar: self.polar,
+        }
+    }
+
+    fn with_polar(self, polar: bool) -> PositionSyntax
+        requires { ⌜ Shaped self ⌝ }
+        ensures { λ r. ⌜ Remade r (withPolar self polar) ⌝ }
+    {
+        PositionSyntax {
+            parent_dynamic: self.parent_dynamic,
+            range_dynamic: self.range_dynamic,
+            position_precision: self.position_precision,
+            rotation_precision: self.rotation_precision,
+            parent: self.parent,
+            polar,
+        }
+    }
+}
+
+// What the names of position `i` begin with, counted from 0: `ancillary.scene_graph.positions[i]`.
+pub fn prefix(i: u64) -> u64
+    requires { ⌜ i < 8192 ⌝ }
+    ensures { λ r. ⌜ r ≡ prefix 2 i 0 ⌝ }
+{
+    512 + 4096 * i
+}
+
+// Twice the encoded precision, at most 24.
+fn precision(v: u64) -> usize
+    ensures { λ r. ⌜ r ≡ precisionOf v ⌝ }
+{
+    if 12 < v {
+        return 24;
+    }
+    v as usize * 2
+}
+
+// The two flags of a full position.
+fn dynamics(bytes: &[u8], words: &mut [u64], s: State, p: u64, shape: PositionSyntax) -> TakenShape
+    requires { ⌜ Sound s ⌝ }
+    requires { ⌜ p < 2 ^ 38 ⌝ }
+    ensures { λ r. ⌜ Met (dynamics p shape) (now (bytes .entry)) (now (words .entry)) s (r .shape) (r .state) (now (words .exit)) ⌝ }
+{
+    let a = fields::flag(bytes, words, s, p + PARENT_DYNAMIC);
+    let s1 = a.state;
+    let b = fields::flag(bytes, words, s1, p + RANGE_DYNAMIC);
+    let s2 = b.state;
+    let to = shape.with_dynamics(a.value, b.value);
+    TakenShape {
+        state: s2,
+        shape: to,
+    }
+}
+
+// The two precisions of a full position.
+fn precisions(
+    bytes: &[u8],
+    words: &mut [u64],
+    s: State,
+    p: u64,
+    shape: PositionSyntax,
+) -> TakenShape
+    requires { ⌜ Sound s ⌝ }
+    requires { ⌜ p < 2 ^ 38 ⌝ }
+    ensures { λ r. ⌜ Formed (precisions p shape) (now (bytes .entry)) (now (words .entry)) s (r .shape) (r .state) (now (words .exit)) ⌝ }
+{
+    let a = fields::take(bytes, words, s, p + POSITION_PRECISION_ENCODED, 4);
+    let s1 = a.state;
+    let b = fields::take(bytes, words, s1, p + ROTATION_PRECISION_ENCODED, 4);
+    let s2 = b.state;
+    let to = shape.with_precisions(a.value, b.value);
+    TakenShape {
+        state: s2,
+        shape: to,
+    }
+}
+
+// What only a full position has.
+fn header(
+    bytes: &[u8],
+    words: &mut [u64],
+    s: State,
+    p: u64,
+    shape: PositionSyntax,
+    full: bool,
+) -> TakenShape
+    requires { ⌜ Sound s ⌝ }
+    requires { ⌜ Shaped shape ⌝ }
+    requires { ⌜ p < 2 ^ 38 ⌝ }
+    ensures { λ r. ⌜ Formed (header p shape full) (now (bytes .entry)) (now (words .entry)) s (r .shape) (r .state) (now (words .exit)) ⌝ }
+{
+    if full {
+        let a = dynamics(bytes, words, s, p, shape);
+        let s1 = a.state;
+        let to = a.shape;
+        return precisions(bytes, words, s1, p, to);
+    }
+    TakenShape { state: s, shape }
+}
+
+// Whether a part that may change is there: always in a full position, else by its flag if the shape has it dynamic.
+fn changed(
+    bytes: &[u8],
+    words: &mut [u64],
+    s: State,
+    name: u64,
+    dynamic: bool,
+    full: bool,
+) -> Flagged
+    requires { ⌜ Sound s ⌝ }
+    ensures { λ r. ⌜ Met (changed name dynamic full) (now (bytes .entry)) (now (words .entry)) s (r .value) (r .state) (now (words .exit)) ⌝ }
+{
+    if full {
+        return Flagged {
+            state: s,
+            value: true,
+        };
+    }
+    if dynamic {
+        return fields::flag(bytes, words, s, name);
+    }
+    Flagged {
+        state: s,
+        value: false,
+    }
+}
+
+// The parent: none if it is absolute, or an index, of which 0 is none too.
+fn new_parent(
+    bytes: &[u8],
+    words: &mut [u64],
+    s: State,
+    p: u64,
+    shape: PositionSyntax,
+) -> TakenShape
+    requires { ⌜ Sound s ⌝ }
+    requires { ⌜ Shaped shape ⌝ }
+    requires { ⌜ p < 2 ^ 38 ⌝ }
+    ensures { λ r. ⌜ Formed (newParent p shape) (now (bytes .entry)) (now (words .entry)) s (r .shape) (r .state) (now (words .exit)) ⌝ }
+{
+    let a = fields::flag(bytes, words, s, p + ABSOLUTE_PARENT);
+    let s1 = a.state;
+    if a.value {
+        let to = shape.with_parent(0);
+        return TakenShape {
+            state: s1,
+            shape: to,
+        };
+    }
+    let b = fields::take(bytes, words, s1, p + PARENT_INDEX, 6);
+    let s2 = b.state;
+    let to = shape.with_parent(b.value as usize);
+    TakenShape {
+        state: s2,
+        shape: to,
+    }
+}
+
+// The parent, if it is there.
+fn parent(
+    bytes: &[u8],
+    words: &mut [u64],
+    s: State,
+    p: u64,
+    shape: PositionSyntax,
+    full: bool,
+) -> TakenShape
+    requires { ⌜ Sound s ⌝ }
+    requires { ⌜ Shaped shape ⌝ }
+    requires { ⌜ p < 2 ^ 38 ⌝ }
+    ensures { λ r. ⌜ Formed (parent p shape full) (now (bytes .entry)) (now (words .entry)) s (r .shape) (r .state) (now (words .exit)) ⌝ }
+{
+    let a = changed(
+        bytes,
+        words,
+        s,
+        p + PARENT_UPDATE,
+        shape.parent_dynamic,
+        full,
+    );
+    let s1 = a.state;
+    if a.value {
+        return new_parent(bytes, words, s1, p, shape);
+    }
+    TakenShape { state: s1, shape }
+}
+
+// The range.
+fn range(bytes: &[u8], words: &mut [u64], s: State, p: u64, dynamic: bool, full: bool) -> State
+    requires { ⌜ Sound s ⌝ }
+    requires { ⌜ p < 2 ^ 38 ⌝ }
+    ensures { λ r. ⌜ Met (range p dynamic full) (now (bytes .entry)) (now (words .entry)) s tt r (now (words .exit)) ⌝ }
+{
+    let a = changed(bytes, words, s, p + RANGE_UPDATE, dynamic, full);
+    let s1 = a.state;
+    if a.value {
+        let b = fields::take(bytes, words, s1, p + RANGE_ENCODED, 4);
+        return b.state;
+    }
+    s1
+}
+
+// A flag, unless it is known already.
+fn flag_unless(
+    bytes: &[u8],
+    words: &mut [u64],
+    s: State,
+    name: u64,
+    known: bool,
+    value: bool,
+) -> Flagged
+    requires { ⌜ Sound s ⌝ }
+    ensures { λ r. ⌜ Met (flagUnless name known value) (now (bytes .entry)) (now (words .entry)) s (r .value) (r .state) (now (words .exit)) ⌝ }
+{
+    if known {
+        return Flagged { state: s, value };
+    }
+    fields::flag(bytes, words, s, name)
+}
+
+// A width: four bits narrower in a delta.
+fn width(base: usize, precision: usize, delta: bool) -> usize
+    requires { ⌜ (4 ≤ base) × (base ≤ 8) ⌝ }
+    requires { ⌜ precision ≤ 24 ⌝ }
+    ensures { λ r. ⌜ r ≡ widthOf base precision delta ⌝ }
+{
+    if delta {
+        return base + precision - 4;
+    }
+    base + precision
+}
+
+// The widths of three coordinates.
+fn widths(polar: bool, precision: usize, delta: bool) -> [usize; 3]
+    requires { ⌜ precision ≤ 24 ⌝ }
+    ensures { λ r. ⌜ r ≡ widthsOf (bases polar) precision delta ⌝ }
+{
+    if polar {
+        let a = width(7, precision, delta);
+        let b = width(6, precision, delta);
+        let c = width(5, precision, delta);
+        return [a, b, c];
+    }
+    let a = width(6, precision, delta);
+    [a; 3]
+}
+
+// How many of them are read.
+fn how_many(polar: bool, precision: usize, delta: bool) -> usize
+    ensures { λ r. ⌜ r ≡ howMany polar precision delta ⌝ }
+{
+    if delta {
+        if polar {
+            if precision == 0 {
+                return 2;
+            }
+        }
+    }
+    3
+}
+
+// The coordinates.
+fn coordinate_values(
+    bytes: &[u8],
+    words: &mut [u64],
+    s: State,
+    p: u64,
+    polar: bool,
+    precision: usize,
+    delta: bool,
+) -> State
+    requires { ⌜ Sound s ⌝ }
+    requires { ⌜ precision ≤ 24 ⌝ }
+    requires { ⌜ p < 2 ^ 38 ⌝ }
+    ensures { λ r. ⌜ Met (coordinateValues p polar precision delta) (now (bytes .entry)) (now (words .entry)) s tt r (now (words .exit)) ⌝ }
+{
+    let all = widths(polar, precision, delta);
+    let n = how_many(polar, precision, delta);
+    fields::passive_values(
+        bytes,
+        words,
+        s,
+        p + POSITION_ENCODED,
+        Field::THIRD,
+        &all[..n],
+    )
+}
+
+// Where a position is present: whether it is a delta, whether it is polar, which a delta keeps, and its coordinates.
+fn coordinates(
+    bytes: &[u8],
+    words: &mut [u64],
+    s: State,
+    p: u64,
+    shape: PositionSyntax,
+    full: bool,
+) -> TakenShape
+    requires { ⌜ Sound s ⌝ }
+    requires { ⌜ Shaped shape ⌝ }
+    requires { ⌜ p < 2 ^ 38 ⌝ }
+    ensures { λ r. ⌜ Formed (coordinates p shape full) (now (bytes .entry)) (now (words .entry)) s (r .shape) (r .state) (now (words .exit)) ⌝ }
+{
+    let d = flag_unless(bytes, words, s, p + POSITION_DELTA, full, false);
+    let s1 = d.state;
+    let q = flag_unless(bytes, words, s1, p + POLAR, d.value, shape.polar);
+    let s2 = q.state;
+    let to = shape.with_polar(q.value);
+    let s3 = coordinate_values(
+        bytes,
+        words,
+        s2,
+        p,
+        q.value,
+        shape.position_precision,
+        d.value,
+    );
+    TakenShape {
+        state: s3,
+        shape: to,
+    }
+}
+
+// The coordinates, if they are there; the shape may become polar or not by them.
+fn coordinates_if_present(
+    bytes: &[u8],
+    words: &mut [u64],
+    s: State,
+    p: u64,
+    shape: PositionSyntax,
+    full: bool,
+) -> TakenShape
+    requires { ⌜ Sound s ⌝ }
+    requires { ⌜ Shaped shape ⌝ }
+    requires { ⌜ p < 2 ^ 38 ⌝ }
+    ensures { λ r. ⌜ Formed (coordinatesIfPresent p shape full) (now (bytes .entry)) (now (words .entry)) s (r .shape) (r .state) (now (words .exit)) ⌝ }
+{
+    let a = fields::flag(bytes, words, s, p + POSITION_PRESENT);
+    let s1 = a.state;
+    if a.value {
+        return coordinates(bytes, words, s1, p, shape, full);
+    }
+    TakenShape { state: s1, shape }
+}
+
+// The four numbers of a rotation.
+fn rotation_values(
+    bytes: &[u8],
+    words: &mut [u64],
+    s: State,
+    p: u64,
+    precision: usize,
+    delta: bool,
+) -> State
+    requires { ⌜ Sound s ⌝ }
+    requires { ⌜ precision ≤ 24 ⌝ }
+    requires { ⌜ p < 2 ^ 38 ⌝ }
+    ensures { λ r. ⌜ Met (rotationValues p precision delta) (now (bytes .entry)) (now (words .entry)) s tt r (now (words .exit)) ⌝ }
+{
+    let a = width(8, precision, delta);
+    let all = [a; 4];
+    fields::passive_values(bytes, words, s, p + ROTATION_ENCODED, Field::THIRD, &all)
+}
+
+// The rotation, if it is there.
+fn rotation(
+    bytes: &[u8],
+    words: &mut [u64],
+    s: State,
+    p: u64,
+    precision: usize,
+    full: bool,
+) -> State
+    requires { ⌜ Sound s ⌝ }
+    requires { ⌜ precision ≤ 24 ⌝ }
+    requires { ⌜ p < 2 ^ 38 ⌝ }
+    ensures { λ r. ⌜ Met (rotation p precision full) (now (bytes .entry)) (now (words .entry)) s tt r (now (words .exit)) ⌝ }
+{
+    let a = fields::flag(bytes, words, s, p + ROTATION_PRESENT);
+    let s1 = a.state;
+    if a.value {
+        let d = flag_unless(bytes, words, s1, p + ROTATION_DELTA, full, false);
+        let s2 = d.state;
+        return rotation_values(bytes, words, s2, p, precision, d.value);
+    }
+    s1
+}
+
+// What follows the type of an extension: a payload, passed over.
+fn extension_body(bytes: &[u8], words: &mut [u64], s: State, q: u64) -> State
+    requires { ⌜ Sound s ⌝ }
+    requires { ⌜ q < 2 ^ 44 ⌝ }
+    ensures { λ r. ⌜ Met (extensionBody q) (now (bytes .entry)) (now (words .entry)) s tt r (now (words .exit)) ⌝ }
+{
+    let w = fields::take(bytes, words, s, q + LENGTH_WIDTH_MINUS_FOUR, 4);
+    let s1 = w.state;
+    let n = fields::take(bytes, words, s1, q + BITS_MINUS_ONE, w.value as usize + 4);
+    let s2 = n.state;
+    fields::passive_bits(words, s2, q + PAYLOAD, n.value as usize + 1)
+}
+
+// One extension, and whether more may follow: type 0 is the last.
+fn extension(bytes: &[u8], words: &mut [u64], s: State, q: u64) -> Flagged
+    requires { ⌜ Sound s ⌝ }
+    requires { ⌜ q < 2 ^ 44 ⌝ }
+    ensures { λ r. ⌜ Met (extension q) (now (bytes .entry)) (now (words .entry)) s (r .value) (r .state) (now (words .exit)) ⌝ }
+{
+    let a = fields::take(bytes, words, s, q + EXTENSION_TYPE, 4);
+    let s1 = a.state;
+    if a.value == 0 {
+        return Flagged {
+            state: s1,
+            value: false,
+        };
+    }
+    let s2 = extension_body(bytes, words, s1, q);
+    Flagged {
+        state: s2,
+        value: true,
+    }
+}
+
+// At most 32 extensions, the last of type 0. After the thirty-second no type is read: 7.
+fn extensions(bytes: &[u8], words: &mut [u64], s: State, p: u64) -> State
+    requires { ⌜ Sound s ⌝ }
+    requires { ⌜ p < 2 ^ 38 ⌝ }
+    ensures { λ r. ⌜ Met (extensions 32 p) (now (bytes .entry)) (now (words .entry)) s tt r (now (words .exit)) ⌝ }
+{
+    let mut t = s;
+    let mut i: u64 = 0;
+    while i < 32 {
+        let e = extension(bytes, words, t, p + Field::THIRD * i);
+        t = e.state;
+        if !e.value {
+            return t;
+        }
+        i += 1;
+    }
+    fields::invalid(t, 7)
+}
+
+// The extensions, if there are any.
+fn extensions_if_present(bytes: &[u8], words: &mut [u64], s: State, p: u64) -> State
+    requires { ⌜ Sound s ⌝ }
+    requires { ⌜ p < 2 ^ 38 ⌝ }
+    ensures { λ r. ⌜ Met (extensionsIfPresent p) (now (bytes .entry)) (now (words .entry)) s tt r (now (words .exit)) ⌝ }
+{
+    let a = fields::flag(bytes, words, s, p + EXTENSIONS_PRESENT);
+    let s1 = a.state;
+    if a.value {
+        return extensions(bytes, words, s1, p);
+    }
+    s1
+}
+
+// The shape as far as the range.
+fn before_range(
+    bytes: &[u8],
+    words: &mut [u64],
+    s: State,
+    p: u64,
+    shape: PositionSyntax,
+    full: bool,
+) -> TakenShape
+    requires { ⌜ Sound s ⌝ }
+    requires { ⌜ Shaped shape ⌝ }
+    requires { ⌜ p < 2 ^ 38 ⌝ }
+    ensures { λ r. ⌜ Formed (beforeRange p shape full) (now (bytes .entry)) (now (words .entry)) s (r .shape) (r .state) (now (words .exit)) ⌝ }
+{
+    let a = header(bytes, words, s, p, shape, full);
+    let s1 = a.state;
+    let to = a.shape;
+    parent(bytes, words, s1, p, to, full)
+}
+
+// What follows the range.
+fn after_range(
+    bytes: &[u8],
+    words: &mut [u64],
+    s: State,
+    p: u64,
+    shape: PositionSyntax,
+    full: bool,
+) -> TakenShape
+    requires { ⌜ Sound s ⌝ }
+    requires { ⌜ Shaped shape ⌝ }
+    requires { ⌜ p < 2 ^ 38 ⌝ }
+    ensures { λ r. ⌜ Formed (afterRange p shape full) (now (bytes .entry)) (now (words .entry)) s (r .shape) (r .state) (now (words .exit)) ⌝ }
+{
+    let a = coordinates_if_present(bytes, words, s, p, shape, full);
+    let s1 = a.state;
+    let to = a.shape;
+    let s2 = rotation(bytes, words, s1, p, to.rotation_precision, full);
+    let s3 = extensions_if_present(bytes, words, s2, p);
+    TakenShape {
+        state: s3,
+        shape: to,
+    }
+}
+
+// One position, full or of an update, whose names begin with the word `p`.
+pub fn position(
+    bytes: &[u8],
+    words: &mut [u64],
+    s: State,
+    p: u64,
+    shape: PositionSyntax,
+    full: bool,
+) -> TakenShape
+    requires { ⌜ Sound s ⌝ }
+    requires { ⌜ Shaped shape ⌝ }
+    requires { ⌜ p < 2 ^ 38 ⌝ }
+    ensures { λ r. ⌜ Formed (position p shape full) (now (bytes .entry)) (now (words .entry)) s (r .shape) (r .state) (now (words .exit)) ⌝ }
+{
+    let a = before_range(bytes, words, s, p, shape, full);
+    let s1 = a.state;
+    let to = a.shape;
+    let s2 = range(bytes, words, s1, p, to.range_dynamic, full);
+    after_range(bytes, words, s2, p, to, full)
+}
+
+// The questions of an entry, and a position with the names of the first one of a scene.
+fn entered(
+    bytes: &[u8],
+    words: &mut [u64],
+    s: State,
+    offset: usize,
+    shape: PositionSyntax,
+    full: bool,
+) -> TakenShape
+    requires { ⌜ Sound s ⌝ }
+    ensures { λ r. ⌜ Met (entryThen (length (now (bytes .entry))) (shapeQuestion shape) offset (position (prefix 2 0 0) shape full)) (now (bytes .entry)) (now (words .entry)) s (r .shape) (r .state) (now (words .exit)) ⌝ }
+{
+    if shape.is_shaped() {
+        let t = fields::entry(bytes, s, 0, offset);
+        return position(bytes, words, t, prefix(0), shape, full);
+    }
+    let t = fields::entry(bytes, s, 2, offset);
+    TakenShape { state: t, shape }
+}
+
+// The shape after a reading: as it came unless all was read.
+fn kept(t: State, before: PositionSyntax, next: PositionSyntax) -> PositionSyntax
+    ensures { λ r. ⌜ r ≡ pick (isRead (t .outcome)) next before ⌝ }
+{
+    if t.is_read() {
+        return next;
+    }
+    before
+}
+
+// A position from the bit `offset` on, full or of an update.
+pub fn read_position(
+    bytes: &[u8],
+    offset: usize,
+    recording: bool,
+    words: &mut [u64],
+    shape: PositionSyntax,
+    full: bool,
+) -> PositionAnswer
+    ensures { λ r. ⌜ Answered (positionReading (inputOf (now (bytes .entry)) recording (now (words .entry))) offset shape full) shape recording (now (words .entry)) (r .answer) (r .shape) (now (words .exit)) ⌝ }
+{
+    let s = State::fresh(recording, 0);
+    let a = entered(bytes, words, s, offset, shape, full);
+    let t = a.state;
+    let next = a.shape;
+    let after = kept(t, shape, next);
+    let answer = t.answer();
+    PositionAnswer {
+        answer,
+        shape: after,
+    }
+}

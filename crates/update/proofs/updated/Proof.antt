@@ -1,0 +1,24 @@
+use borrow.Author.Needs.{needs}
+use Rattle.rules.proofs.Laws.{first, first-alone, last}
+use Rattle.update.specs.Update.{graphUpdate, updateFields}
+use Rattle.update.proofs.updated.Statement.{statement}
+use Rattle.update.proofs.updated.Tie as tie
+
+positions-requires : tie.Need-positions-requires
+positions-requires c κs = search needs
+
+validated-requires : tie.Need-validated-requires
+validated-requires c κs = search needs
+
+same-length : tie.Need-same-length
+same-length c = search needs
+
+returns : tie.Need-returns
+unfolding graphUpdate updateFields
+returns c =
+    let read = c .before .before .before .before .before .positions .ensures in
+    let valid = c .validated .ensures in
+    record { met = first _ (read .met) (first-alone _ valid (last (valid .sound))); others = read .others; long = read .long }
+
+pub updated-spec : {M : Type 1} → statement M
+updated-spec = tie.close (tie.spec positions-requires validated-requires same-length returns)

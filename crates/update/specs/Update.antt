@@ -1,0 +1,39 @@
+-- `graph_update`: the field rules of an update, and what its reading promises.
+use Prim.Native.Nat.{ℕ}
+use mathlib.Core.Path.{_≡_}
+use mathlib.Core.List.{List, [], _∷_}
+use mathlib.Core.Bool.{Bool, true, false, _&&_}
+use lib.Dec.{leb}
+use lib.ListN.{take, drop}
+use Rattle.rules.specs.Rule.{Rule, _>>=_, pick}
+use Rattle.rules.specs.Reading.{Reading, Input}
+use Rattle.rules.specs.Answer.{entryReading, Answered}
+use Rattle.position.specs.declared.PositionSyntax.{PositionSyntax}
+use Rattle.position.specs.Entry.{isShaped}
+use Rattle.validation.specs.Validation.{ifValid}
+use Rattle.scene.specs.Positions.{positions}
+use Rattle.update.specs.declared.UpdateAnswer.{UpdateAnswer}
+
+-- the fields of an update: the shapes that its validation is asked of
+unfoldable pub updateFields : List PositionSyntax → Rule (List PositionSyntax)
+updateFields shapes = positions false shapes
+
+unfoldable pub graphUpdate : List PositionSyntax → Rule (List PositionSyntax)
+graphUpdate shapes = updateFields shapes >>= ifValid
+
+-- question 2: at most 63 shapes, no precision above 24. It is 0 if it is met
+unfoldable pub allShaped : List PositionSyntax → Bool
+allShaped [] = true
+allShaped (sh ∷ shapes) = isShaped sh && allShaped shapes
+
+abbrev pub shapesQuestion : ℕ → List PositionSyntax → ℕ
+shapesQuestion count shapes = pick (leb count 63 && allShaped shapes) 0 2
+
+-- an update of `count` shapes
+abbrev pub updateReading : Input → ℕ → ℕ → List PositionSyntax → Reading (List PositionSyntax)
+updateReading i offset count shapes = entryReading i (shapesQuestion count shapes) offset (graphUpdate shapes)
+
+-- The answer: the first `count` shapes as they were read, as they came unless read, and the others as they came.
+pub record UpdateAnswered (x : Reading (List PositionSyntax)) (count : ℕ) (shapes : List PositionSyntax) (rec : Bool) (ws : List ℕ) (r : UpdateAnswer) (vs : List ℕ) : Type 0 where
+  pub answered : Answered x (take count shapes) rec ws (r .answer) (take count (r .shapes)) vs
+  pub others : drop count (r .shapes) ≡ drop count shapes

@@ -1,0 +1,5 @@
+pub mod Lists
+pub mod Pigeons
+pub mod Chains
+pub mod Ranks
+pub mod Refusals

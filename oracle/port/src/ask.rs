@@ -1,0 +1,127 @@
+//! Requests put to the library, and what it gives back, checked, as answers.
+use crate::buffer::Buffer;
+use crate::library::{Arguments, Reading, SHAPES, Shape, Shapes, gateway_validation};
+use oracle::answer::{Answer, Outcome, Verdict};
+use oracle::request::{self, Call, Question, Request};
+
+pub fn answer(request: &Request) -> Result<Answer, String> {
+    match request {
+        Request::Call(call) => answer_call(call),
+        Request::Validation { at, shapes } => {
+            let reading = gateway_validation(handed(shapes), shapes.len(), *at as usize);
+            Ok(Answer {
+                kind: request.kind(),
+                verdict: verdict(&reading)?,
+                count: reading.fields,
+                shapes: Vec::new(),
+                fields: Vec::new(),
+            })
+        }
+    }
+}
+
+fn answer_call(call: &Call) -> Result<Answer, String> {
+    let mut buffer = Buffer::new(call.room as usize);
+    let (reading, shapes) = asked(call, buffer.lent())?;
+    let recorded = if call.recording { reading.fields } else { 0 };
+    Ok(Answer {
+        kind: call.question.kind(),
+        verdict: verdict(&reading)?,
+        count: reading.fields,
+        shapes,
+        fields: buffer.fields(recorded)?,
+    })
+}
+
+/// The reading, and the shapes after it.
+fn asked(call: &Call, words: &mut [u64]) -> Result<(Reading, Vec<request::Shape>), String> {
+    let arguments = Arguments {
+        bytes: &call.bytes,
+        offset: call.offset as usize,
+        recording: call.recording,
+        words,
+    };
+    match &call.question {
+        Question::Scene => {
+            let scene = arguments.scene();
+            let shapes = declared(&scene.shapes, scene.count)?;
+            Ok((scene.answer, shapes))
+        }
+        Question::Update(given) => {
+            let shapes = handed(given);
+            let update = arguments.update(shapes, given.len());
+            let shapes = updated(given, &shapes, &update.shapes)?;
+            Ok((update.answer, shapes))
+        }
+        Question::Position { full, shape } => {
+            let position = arguments.position(shape.into(), *full);
+            Ok((position.answer, vec![(&position.shape).into()]))
+        }
+        Question::Metadata | Question::Fields(_) => {
+            Err(format!("the library has no {}", call.question.kind()))
+        }
+    }
+}
+
+fn verdict(reading: &Reading) -> Result<Verdict, String> {
+    let number = reading.number;
+    Ok(Verdict {
+        outcome: match reading.outcome {
+            0 => Outcome::Read,
+            1 => Outcome::Refused,
+            2 => Outcome::Stopped,
+            other => return Err(format!("no outcome: {other}")),
+        },
+        number: number
+            .try_into()
+            .map_err(|_| format!("no number: {number}"))?,
+        position: reading.position as u64,
+    })
+}
+
+/// The shapes of a request, as many as can be handed over; after them, such as no reading makes.
+fn handed(given: &[request::Shape]) -> Shapes {
+    let shape = |i| given.get(i).map_or_else(|| strange(i), Shape::from);
+    Shapes {
+        shapes: std::array::from_fn(shape),
+    }
+}
+
+/// A shape beyond the count, that a reading is neither to look at nor to change.
+fn strange(i: usize) -> Shape {
+    Shape {
+        parent_dynamic: i.is_multiple_of(2),
+        range_dynamic: i.is_multiple_of(3),
+        position_precision: 100 + i,
+        rotation_precision: 200 + i,
+        parent: 300 + i,
+        polar: i.is_multiple_of(5),
+    }
+}
+
+/// The shapes of a scene; those beyond its count must be the default.
+fn declared(shapes: &[Shape; SHAPES], count: usize) -> Result<Vec<request::Shape>, String> {
+    if count > SHAPES {
+        return Err(format!("a scene of {count} positions"));
+    }
+    let (first, beyond) = shapes.split_at(count);
+    match beyond.iter().position(|shape| *shape != Shape::default()) {
+        Some(i) => Err(format!("shape {} isn't the default", count + i + 1)),
+        None => Ok(first.iter().map(request::Shape::from).collect()),
+    }
+}
+
+/// The shapes after an update; those beyond the count must be as they were handed over, and those
+/// that could not be handed over are as they came.
+fn updated(
+    given: &[request::Shape],
+    before: &Shapes,
+    after: &[Shape; SHAPES],
+) -> Result<Vec<request::Shape>, String> {
+    let count = given.len().min(SHAPES);
+    if let Some(i) = (count..SHAPES).find(|&i| after[i] != before.shapes[i]) {
+        return Err(format!("shape {} was changed, beyond the count", i + 1));
+    }
+    let after = after[..count].iter().map(request::Shape::from);
+    Ok(after.chain(given[count..].iter().cloned()).collect())
+}

@@ -1,0 +1,151 @@
+//! The functions of the static library, and the structs that cross.
+use oracle::request;
+
+/// How many shapes cross with a scene or an update.
+pub const SHAPES: usize = 63;
+
+#[repr(C)]
+#[derive(Clone, Copy, Debug, Default, PartialEq)]
+pub struct Shape {
+    pub parent_dynamic: bool,
+    pub range_dynamic: bool,
+    pub position_precision: usize,
+    pub rotation_precision: usize,
+    pub parent: usize,
+    pub polar: bool,
+}
+
+#[repr(C)]
+pub struct Reading {
+    /// 0 read, 1 refused, 2 stopped.
+    pub outcome: u64,
+    pub number: u64,
+    pub position: usize,
+    pub fields: usize,
+}
+
+#[repr(C)]
+pub struct SceneReading {
+    pub answer: Reading,
+    pub count: usize,
+    pub shapes: [Shape; SHAPES],
+}
+
+#[repr(C)]
+pub struct UpdateReading {
+    pub answer: Reading,
+    pub shapes: [Shape; SHAPES],
+}
+
+#[repr(C)]
+pub struct PositionReading {
+    pub answer: Reading,
+    pub shape: Shape,
+}
+
+/// An array can't be handed over by value alone.
+#[repr(C)]
+#[derive(Clone, Copy)]
+pub struct Shapes {
+    pub shapes: [Shape; SHAPES],
+}
+
+unsafe extern "C" {
+    fn gateway_scene(
+        bytes: *const u8,
+        bytes_len: usize,
+        offset: usize,
+        recording: bool,
+        words: *mut u64,
+        words_len: usize,
+    ) -> SceneReading;
+
+    fn gateway_update(
+        bytes: *const u8,
+        bytes_len: usize,
+        offset: usize,
+        recording: bool,
+        words: *mut u64,
+        words_len: usize,
+        shapes: Shapes,
+        count: usize,
+    ) -> UpdateReading;
+
+    fn gateway_position(
+        bytes: *const u8,
+        bytes_len: usize,
+        offset: usize,
+        recording: bool,
+        words: *mut u64,
+        words_len: usize,
+        shape: Shape,
+        full: bool,
+    ) -> PositionReading;
+
+    pub safe fn gateway_validation(shapes: Shapes, count: usize, at: usize) -> Reading;
+}
+
+/// What every reading is lent and told.
+pub struct Arguments<'a> {
+    pub bytes: &'a [u8],
+    pub offset: usize,
+    pub recording: bool,
+    pub words: &'a mut [u64],
+}
+
+/// Calls a reading. Both slices are borrowed for the call and handed over with their lengths.
+macro_rules! call {
+    ($reading:ident, $told:expr $(, $more:expr)*) => {
+        unsafe {
+            $reading(
+                $told.bytes.as_ptr(),
+                $told.bytes.len(),
+                $told.offset,
+                $told.recording,
+                $told.words.as_mut_ptr(),
+                $told.words.len(),
+                $($more),*
+            )
+        }
+    };
+}
+
+impl Arguments<'_> {
+    pub fn scene(self) -> SceneReading {
+        call!(gateway_scene, self)
+    }
+
+    pub fn update(self, shapes: Shapes, count: usize) -> UpdateReading {
+        call!(gateway_update, self, shapes, count)
+    }
+
+    pub fn position(self, shape: Shape, full: bool) -> PositionReading {
+        call!(gateway_position, self, shape, full)
+    }
+}
+
+impl From<&request::Shape> for Shape {
+    fn from(shape: &request::Shape) -> Self {
+        Self {
+            parent_dynamic: shape.parent_dynamic,
+            range_dynamic: shape.range_dynamic,
+            position_precision: shape.position_precision,
+            rotation_precision: shape.rotation_precision,
+            parent: shape.parent,
+            polar: shape.polar,
+        }
+    }
+}
+
+impl From<&Shape> for request::Shape {
+    fn from(shape: &Shape) -> Self {
+        Self {
+            parent_dynamic: shape.parent_dynamic,
+            range_dynamic: shape.range_dynamic,
+            position_precision: shape.position_precision,
+            rotation_precision: shape.rotation_precision,
+            parent: shape.parent,
+            polar: shape.polar,
+        }
+    }
+}
