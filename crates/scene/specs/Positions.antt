@@ -16,12 +16,13 @@ use Rattle.position.specs.Position.{position}
 abbrev pub updated : ℕ
 updated = 23
 
--- position `i`, counted from 0: in a scene all of them are there and full, in an update each has a flag first
+-- `if parser.flag(updated)? { parser.position(..)?; }`
 unfoldable pub updatedPosition : ℕ → PositionSyntax → Rule PositionSyntax
 updatedPosition p sh = do
   there ← flag (p + updated)
   pick there (position p sh false) (done sh)
 
+-- position `i`, counted from 0: in a scene all of them are there and full, in an update each has a flag first
 unfoldable pub positionAt : Bool → ℕ → PositionSyntax → Rule PositionSyntax
 positionAt full i sh = pick full (position (prefix 2 i 0) sh true) (updatedPosition (prefix 2 i 0) sh)
 
