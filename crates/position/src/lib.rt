@@ -16,7 +16,7 @@ ghost use Rattle.position.specs.Position.{precisionOf, dynamics, precisi
 ghost use Rattle.position.specs.Entry.{isShaped, shapeQuestion, positionReading};
 ghost use Rattle.position.specs.Formed.{Shaped, Formed, Remade};
 
-// The encoding shape of one scene position.
+// The encoding shape of one scene position, which crosses to C as it is.
 #[repr(C)]
 pub struct PositionSyntax {
     pub parent_dynamic: bool,

@@ -51,7 +51,7 @@ module _ {A : Type 0} {x : Reading A} {rec : Bool} {ws vs : List ℕ} {a : A} {t
   pub answered-ended : isRead (t .outcome) ≡ false → Answered x b rec ws r b vs
   answered-ended h = record { answer = same-answer; value = sym (ap (valueOr b) (g .result) ∙ value-ended (t .outcome) a b h); words = g .words }
 
-  -- the value where the code picks it, as `v` of two
+  -- the same where the code picks one of two: what `f` takes of it is the value
   pub answered : {B : Type 0} (f : B → A) (p q : B) → f p ≡ a → f q ≡ b → Answered x b rec ws r (f (pick (isRead (t .outcome)) p q)) vs
   answered f p q e₁ e₂ = go (isRead (t .outcome)) refl
     where
@@ -75,6 +75,14 @@ entry-refused size own offset r {bs} {ws} {vs} {s} {t} {a} h m = go (leb size 83
     go : (b : Bool) → leb size 8388608 ≡ b → Met (entryThen size own offset r) bs ws s a t vs
     go true q = rw (q, ne-eqb own 0 h) (ended-as (rw (q, ne-eqb own 0 h) at m))
     go false q = rw q (ended-as (rw q at m))
+
+-- the number of an entry's own question, 0 if it is met, by the code's own test of it
+module _ (met : Bool) (n : ℕ) {b : Bool} (e : b ≡ met) where
+  pub question-kept : b ≡ true → pick met 0 n ≡ 0
+  question-kept q = rw (← e, q)
+
+  pub question-broken : b ≡ false → pick met 0 n ≡ n
+  question-broken q = rw (← e, q)
 
 -- the entry's own question is met, or not: `n` is its number as the code hands it on
 module _ {A : Type 0} (size own offset : ℕ) (r : Rule A) {bs ws : List ℕ} {s t : State} {a : A} (n : ℕ) (e : own ≡ n) (m : MetByBytes (entry size n offset) bs s tt t) where

@@ -1,4 +1,5 @@
--- Law (a): a rule and then another is the one reading after the other. Law (b): an ended reading stays as it is.
+-- Law (a): a rule and then another is the one reading after the other. Law (b): an ended reading stays as it is. And how
+-- rules one after another are put together.
 use Prim.Native.Nat.{ℕ, suc, _+_, _-_}
 use mathlib.Core.Path.{_≡_, refl, ap, _∙_, fun-ext}
 use mathlib.Core.List.{List, _∷_, _++_}

@@ -2,7 +2,7 @@
 use Prim.Native.Nat.{ℕ, _+_, _-_, _≤_}
 use mathlib.Core.Path.{_≡_, refl, ap, sym, _∙_}
 use mathlib.Core.List.{List, [], _∷_}
-use mathlib.Core.Bool.{Bool, true, false}
+use mathlib.Core.Bool.{Bool, true, false, _&&_}
 use native.Mathlib.Omega.{arith}
 use native.Mathlib.Nat.{add-zero, add-assoc}
 use borrow.Author.Tests.{eq-eqb, ne-eqb}
@@ -21,6 +21,11 @@ use Rattle.rules.proofs.Bind.{then, bind}
 
 pub never : {P : Type 0} {b : Bool} → b ≡ true → b ≡ false → P
 never p q = let z : _≡_ {A = ℕ} 0 1 = cc in absurd (omega arith)
+
+-- two tests that are both met
+pub both : (a : Bool) {b : Bool} → (a && b) ≡ true → (a ≡ true) × (b ≡ true)
+both true h = (refl, h)
+both false h = never h refl
 
 -- the result of a state that has read all so far, and of one that has ended
 result-read : {A : Type 0} (o : Outcome) (a : A) → isRead o ≡ true → resultOf o a ≡ read a

@@ -1,7 +1,7 @@
 -- The loop over positions: at its start, after one more, and at its end.
 use Prim.Native.Nat.{ℕ, _+_, _<_, _≤_}
 use mathlib.Core.Path.{_≡_, refl, sym, ap, _∙_, subst, fun-ext}
-use mathlib.Core.List.{List, _∷_, _++_, append-nil}
+use mathlib.Core.List.{List, [], _∷_, _++_, append-nil}
 use native.Mathlib.Omega.{arith}
 use native.Mathlib.Numerals.{add-one}
 use lib.ListN.{length, getD, take, drop, set, length-set, drop-of-length-le}
@@ -14,6 +14,18 @@ use Rattle.rules.proofs.Bind.{bind-done}
 use Rattle.rules.proofs.Left.{Left, left-all}
 use Rattle.rules.proofs.Each.{each-more, each-none}
 use Rattle.rules.proofs.Laws.{last-as}
+
+-- the first `count` values of a list from number `i` on: one more, or none
+module _ {A : Type 0} (l : List A) (count i : ℕ) (m : count ≤ length l) where
+  pub one-left : (d : A) → i < count → drop i (take count l) ≡ getD l i d ∷ drop (i + 1) (take count l)
+  one-left d h =
+      let few : length (take count l) ≡ count = length-take-le count l m in
+      rw (add-one, ← getD-take count l i d h) (drop-cons (take count l) i d (omega arith))
+
+  pub none-left : count ≤ i → drop i (take count l) ≡ []
+  none-left h =
+      let few : length (take count l) ≤ i = omega (arith, length-take-le count l m) in
+      drop-of-length-le (take count l) few
 
 module _ {A : Type 0} (f : ℕ → A → Rule A) (count : ℕ) (before : List A) (bs ws : List ℕ) (s : State) where
   -- what follows the first `i` values
@@ -39,9 +51,7 @@ module _ {A : Type 0} (f : ℕ → A → Rule A) (count : ℕ) (before : List A)
 
     module _ (m : count ≤ length before) where
       first-left : i < count → drop i (take count before) ≡ getD next i d ∷ drop (i + 1) (take count before)
-      first-left h =
-          let few : length (take count before) ≡ count = length-take-le count before m in
-          rw (add-one, next-at, ← getD-take count before i d h) (drop-cons (take count before) i d (omega arith))
+      first-left h = rw next-at (one-left before count i m d h)
 
       one-read : (y : A) → i < count → _≡_ {A = List A → Rule (List A)} (λ ys. done (take i next ++ y ∷ ys)) (λ ys. done (take (i + 1) (set next i y) ++ ys))
       one-read y h =
@@ -59,7 +69,6 @@ module _ {A : Type 0} (f : ℕ → A → Rule A) (count : ℕ) (before : List A)
 
       pub reached-all : count ≤ i → Met (each f 0 (take count before)) bs ws s (take count next) t vs
       reached-all h =
-          let few : length (take count before) ≤ i = omega (arith, length-take-le count before m) in
           let at-end : i ≡ count = omega (arith, x .most) in
-          let l = each-none f i _ (rw (drop-of-length-le (take count before) few) at (x .left)) in
+          let l = each-none f i _ (rw (none-left before count i m h) at (x .left)) in
           l .rest (last-as (l .sound) (rw (append-nil, at-end)))

@@ -105,7 +105,7 @@ fn position_at(
     updated_position(bytes, words, s, p, shape)
 }
 
-// The first `count` positions, one after another.
+// The first `count` positions, one after another, of a scene (`full`) or of an update.
 pub fn positions(
     bytes: &[u8],
     words: &mut [u64],

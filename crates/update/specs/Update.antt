@@ -21,13 +21,17 @@ updateFields shapes = positions false shapes
 unfoldable pub graphUpdate : List PositionSyntax → Rule (List PositionSyntax)
 graphUpdate shapes = updateFields shapes >>= ifValid
 
--- question 2: at most 63 shapes, no precision above 24. It is 0 if it is met
+-- question 2: at most 63 shapes, no precision above 24
 unfoldable pub allShaped : List PositionSyntax → Bool
 allShaped [] = true
 allShaped (sh ∷ shapes) = isShaped sh && allShaped shapes
 
+abbrev pub mayUpdate : ℕ → List PositionSyntax → Bool
+mayUpdate count shapes = leb count 63 && allShaped shapes
+
+-- its number, 0 if it is met
 abbrev pub shapesQuestion : ℕ → List PositionSyntax → ℕ
-shapesQuestion count shapes = pick (leb count 63 && allShaped shapes) 0 2
+shapesQuestion count shapes = pick (mayUpdate count shapes) 0 2
 
 -- an update of `count` shapes
 abbrev pub updateReading : Input → ℕ → ℕ → List PositionSyntax → Reading (List PositionSyntax)

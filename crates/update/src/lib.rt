@@ -4,9 +4,7 @@ use rules::Answer;
 use rules::State;
 use scene::TakenShapes;
 ghost use mathlib.Core.Path.{_≡_};
-ghost use mathlib.Core.Bool.{_&&_};
 ghost use Prim.Native.Nat.{ℕ, _≤_, _<_};
-ghost use lib.Dec.{leb};
 ghost use lib.ListN.{length, getD, take};
 ghost use Rattle.rules.specs.Rule.{pick};
 ghost use Rattle.rules.specs.Reading.{isRead};
@@ -15,7 +13,7 @@ ghost use Rattle.rules.specs.Answer.{inputOf, entryThen};
 ghost use Rattle.position.specs.Shape.{default};
 ghost use Rattle.position.specs.Formed.{Shaped};
 ghost use Rattle.scene.specs.Positions.{Positioned};
-ghost use Rattle.update.specs.Update.{graphUpdate, allShaped, shapesQuestion, updateReading, UpdateAnswered};
+ghost use Rattle.update.specs.Update.{graphUpdate, allShaped, mayUpdate, shapesQuestion, updateReading, UpdateAnswered};
 
 // What an update answers: the shapes, which are as they came unless it was read.
 pub struct UpdateAnswer {
@@ -41,7 +39,7 @@ fn all_shaped(shapes: [PositionSyntax; 63], count: usize) -> bool
 
 // Whether question 2 is met.
 fn may_update(shapes: [PositionSyntax; 63], count: usize) -> bool
-    ensures { λ r. ⌜ r ≡ (leb count 63 && allShaped (take count shapes)) ⌝ }
+    ensures { λ r. ⌜ r ≡ mayUpdate count (take count shapes) ⌝ }
 {
     if count <= State::POSITIONS {
         return all_shaped(shapes, count);

@@ -1,22 +1,18 @@
 use Prim.Native.Nat.{ℕ, _<_}
-use mathlib.Core.Bool.{Bool, true, false, _&&_}
-use mathlib.Core.Path.{_≡_, refl, sym, _∙_}
+use mathlib.Core.Bool.{Bool, true, _&&_}
+use mathlib.Core.Path.{_≡_, sym, _∙_}
 use native.Mathlib.Omega.{arith}
 use borrow.Author.Tests.{leb-true}
 use borrow.Author.Needs.{needs}
 use lib.Dec.{leb}
 use Rattle.rules.specs.Derived.{count}
-use Rattle.rules.proofs.Laws.{first-remaining, demand-kept, demand-broken, last, never}
+use Rattle.rules.proofs.Laws.{first-remaining, demand-kept, demand-broken, last, both}
 use Rattle.fields.proofs.Steps.{for-both}
 use Rattle.fields.proofs.count.Statement.{statement}
 use Rattle.fields.proofs.count.Tie as tie
 
 within : {r : Bool} (n : ℕ) (b : Bool) → r ≡ (leb n 4096 && b) → r ≡ true → n < 4097
-within n b e q = go (leb n 4096) refl (sym e ∙ q)
-  where
-    go : (a : Bool) → leb n 4096 ≡ a → (a && b) ≡ true → n < 4097
-    go true h k = omega (arith, leb-true n 4096 h)
-    go false h k = never k refl
+within n b e q = omega (arith, leb-true n 4096 (both (leb n 4096) (sym e ∙ q) .0))
 
 sub-fits : tie.Need-sub-fits
 sub-fits c = search needs

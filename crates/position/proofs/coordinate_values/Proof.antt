@@ -21,8 +21,9 @@ add-passive-values c = search needs
 -- there are so many widths
 few : (c : tie.After-how-many) → c .how-many .result ≤ length (c .before .widths .result)
 few c =
+    let args = c .before .before .before .before .args in
     let long : length (c .before .widths .result) ≡ 3 = search needs in
-    omega (arith, c .how-many .ensures, how-many-most (c .before .before .before .before .args .polar) (c .before .before .before .before .args .precision) (c .before .before .before .before .args .delta))
+    omega (arith, c .how-many .ensures, how-many-most (args .polar) (args .precision) (args .delta))
 
 as-many : (c : tie.After-how-many) → length (take (c .how-many .result) (c .before .widths .result)) ≡ c .how-many .result
 as-many c = length-take-le _ _ (few c)

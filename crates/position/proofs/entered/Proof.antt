@@ -1,8 +1,9 @@
 use mathlib.Core.Path.{sym, _∙_}
 use native.Mathlib.Omega.{arith}
 use borrow.Author.Needs.{needs}
-use Rattle.rules.proofs.Answers.{entry-kept, entry-broken}
-use Rattle.position.proofs.Entries.{shaped-when, question-kept, question-broken}
+use Rattle.rules.proofs.Answers.{question-kept, question-broken, entry-kept, entry-broken}
+use Rattle.position.specs.Entry.{isShaped}
+use Rattle.position.proofs.Entries.{shaped-when}
 use Rattle.position.proofs.entered.Statement.{statement}
 use Rattle.position.proofs.entered.Tie as tie
 
@@ -16,7 +17,9 @@ prefix-requires : tie.Need-prefix-requires
 prefix-requires c κs = search needs
 
 position-requires : tie.Need-position-requires
-position-requires c κs = let at-if = c .before .before .before in (search needs, (shaped-when _ (sym (at-if .before .is-shaped .ensures) ∙ at-if .if1 .taken), omega (arith, c .prefix .ensures)))
+position-requires c κs =
+    let at-if = c .before .before .before in
+    (search needs, (shaped-when _ (sym (at-if .before .is-shaped .ensures) ∙ at-if .if1 .taken), omega (arith, c .prefix .ensures)))
 
 same-length : tie.Need-same-length
 same-length c = search needs
@@ -27,7 +30,7 @@ returns c =
     let at-entry = at-call .before .before .before in
     let at-test = at-entry .before .before in
     let start = at-test .before .before .before in
-    let own = question-kept (start .args .shape) (at-test .is-shaped .ensures) (at-entry .before .if1 .taken) in
+    let own = question-kept (isShaped (start .args .shape)) 2 (at-test .is-shaped .ensures) (at-entry .before .if1 .taken) in
     entry-kept _ _ _ _ 0 own (at-entry .entry .ensures) (rw (at-call .before .prefix .ensures) at (at-call .position .ensures .met))
 
 entry-requires-2 : tie.Need-entry-requires-2
@@ -36,7 +39,7 @@ entry-requires-2 c κs = search needs
 returns-2 : tie.Need-returns-2
 returns-2 c =
     let start = c .before .before .before .before .before in
-    let own = question-broken (start .args .shape) (c .before .before .is-shaped .ensures) (c .before .if1 .left) in
+    let own = question-broken (isShaped (start .args .shape)) 2 (c .before .before .is-shaped .ensures) (c .before .if1 .left) in
     entry-broken _ _ _ _ 2 own (c .entry2 .ensures) (λ z. omega arith)
 
 pub entered-spec : {M : Type 1} → statement M

@@ -1,6 +1,6 @@
 use mathlib.Core.Path.{refl}
 use borrow.Author.Needs.{needs}
-use Rattle.rules.proofs.Answers.{entry-kept}
+use Rattle.scene.proofs.Scenes.{behind-entry}
 use Rattle.scene.proofs.entered.Statement.{statement}
 use Rattle.scene.proofs.entered.Tie as tie
 
@@ -16,10 +16,7 @@ same-length c = search needs
 returns : tie.Need-returns
 returns c =
     let read = c .before .before .scene-graph .ensures in
-    record {
-      taken = record { met = entry-kept _ _ _ _ 0 refl (c .before .before .before .before .entry .ensures) (read .taken .met); others = read .taken .others; long = read .taken .long };
-      most = read .most;
-    }
+    record { taken = behind-entry _ _ _ 0 refl (c .before .before .before .before .entry .ensures) (read .taken); most = read .most }
 
 pub entered-spec : {M : Type 1} → statement M
 entered-spec = tie.close (tie.spec entry-requires scene-graph-requires same-length returns)

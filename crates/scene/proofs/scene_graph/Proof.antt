@@ -1,6 +1,6 @@
 use borrow.Author.Needs.{needs}
-use Rattle.rules.proofs.Laws.{first, first-alone, last}
 use Rattle.scene.specs.Scene.{sceneGraph}
+use Rattle.scene.proofs.Scenes.{then-valid}
 use Rattle.scene.proofs.scene_graph.Statement.{statement}
 use Rattle.scene.proofs.scene_graph.Tie as tie
 
@@ -17,11 +17,7 @@ returns : tie.Need-returns
 unfolding sceneGraph
 returns c =
     let read = c .before .before .before .before .before .scene-fields .ensures in
-    let valid = c .validated .ensures in
-    record {
-      taken = record { met = first _ (read .taken .met) (first-alone _ valid (last (valid .sound))); others = read .taken .others; long = read .taken .long };
-      most = read .most;
-    }
+    record { taken = then-valid (read .taken) (c .validated .ensures); most = read .most }
 
 pub scene-graph-spec : {M : Type 1} → statement M
 scene-graph-spec =

@@ -1,5 +1,5 @@
 use borrow.Author.Needs.{needs}
-use Rattle.rules.proofs.Laws.{first, first-alone, last}
+use Rattle.scene.proofs.Scenes.{then-valid}
 use Rattle.update.specs.Update.{graphUpdate, updateFields}
 use Rattle.update.proofs.updated.Statement.{statement}
 use Rattle.update.proofs.updated.Tie as tie
@@ -15,10 +15,7 @@ same-length c = search needs
 
 returns : tie.Need-returns
 unfolding graphUpdate updateFields
-returns c =
-    let read = c .before .before .before .before .before .positions .ensures in
-    let valid = c .validated .ensures in
-    record { met = first _ (read .met) (first-alone _ valid (last (valid .sound))); others = read .others; long = read .long }
+returns c = then-valid (c .before .before .before .before .before .positions .ensures) (c .validated .ensures)
 
 pub updated-spec : {M : Type 1} → statement M
 updated-spec = tie.close (tie.spec positions-requires validated-requires same-length returns)
