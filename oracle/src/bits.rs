@@ -38,6 +38,11 @@ impl Bits {
         Bits(self.0[..length].to_vec())
     }
 
+    /// What follows the first bits.
+    pub fn after(&self, first: usize) -> Bits {
+        Bits(self.0[first..].to_vec())
+    }
+
     /// How many zero bits it would take to fill the last byte.
     pub fn spare(&self) -> usize {
         self.len().wrapping_neg() % 8

@@ -65,10 +65,8 @@ fn write_answer(answer: Answer, out: &mut impl Write) -> Result<(), String> {
 }
 
 fn write_record(line: &str, out: &mut impl Write) -> Result<(), String> {
-    match record::record(&Request::parse(line)?)? {
-        Some(record) => out.write_all(&record).map_err(told),
-        None => Ok(()),
-    }
+    let record = record::record(&Request::parse(line)?)?;
+    out.write_all(&record).map_err(told)
 }
 
 fn write_table(out: &mut impl Write) -> Result<bool, String> {

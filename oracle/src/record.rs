@@ -5,22 +5,25 @@ use crate::names;
 use crate::request::{Question, Request, Shape};
 use apac::run::{Action, Op};
 
-/// The kinds that have records; the first byte of a record is the place of its kind here.
-const KINDS: [&str; 5] = ["fields", "scene", "update", "position", "validation"];
+/// The kinds of requests; the first byte of a record is the place of its kind here.
+const KINDS: [&str; 6] = [
+    "fields",
+    "scene",
+    "update",
+    "position",
+    "validation",
+    "metadata",
+];
 
-/// The record of a request, `None` for the kinds that have none yet.
-pub fn record(request: &Request) -> Result<Option<Vec<u8>>, String> {
+/// The record of a request and its answer.
+pub fn record(request: &Request) -> Result<Vec<u8>, String> {
     let kind = KINDS.iter().position(|&kind| kind == request.kind());
-    kind.map(|kind| whole(kind as u8, request, &answer(request)))
-        .transpose()
-}
-
-fn whole(kind: u8, request: &Request, answer: &Answer) -> Result<Vec<u8>, String> {
-    let mut record = vec![kind];
+    let answer = answer(request);
+    let mut record = vec![kind.expect("every kind has records") as u8];
     put_arguments(&mut record, request)?;
-    put_end(&mut record, answer)?;
+    put_end(&mut record, &answer)?;
     put_given(&mut record, request)?;
-    put_result(&mut record, answer)?;
+    put_result(&mut record, &answer)?;
     Ok(record)
 }
 
@@ -151,14 +154,13 @@ mod tests {
     use super::*;
     use crate::text::hex;
 
-    fn recorded(line: &str) -> Option<Vec<u8>> {
+    fn recorded(line: &str) -> Vec<u8> {
         record(&Request::parse(line).expect("a request")).expect("an answer")
     }
 
     /// The record of a request, held to its parts in hexadecimal digits.
     fn check(line: &str, parts: &[&str]) {
-        let record = recorded(line).expect("a kind with records");
-        assert_eq!(hex(&record), parts.concat(), "{line}");
+        assert_eq!(hex(&recorded(line)), parts.concat(), "{line}");
     }
 
     const STILL: &str = "0100000000000000000000000000000000000000";
@@ -167,11 +169,8 @@ mod tests {
     #[test]
     fn scenes() {
         let head = "01_01_00000005_0000000000000000_00000001_0000_00_00_0000000000000006_00000001";
-        let words = [0_u64, 6, 1, 0, 257].map(|word| format!("{word:016x}"));
-        check(
-            "scene 0 1 5 00",
-            &[&plain(head), "00", "0000", &words.concat()],
-        );
+        let words = digits([0, 6, 1, 0, 257]);
+        check("scene 0 1 5 00", &[&plain(head), "00", "0000", &words]);
         let head = "01_00_00000000_0000000000000000_00000006_0000_00_00_0000000000000030_00000014";
         let input = "0a0080800080";
         let line = format!("scene 0 0 0 {input}");
@@ -180,6 +179,11 @@ mod tests {
 
     fn plain(digits: &str) -> String {
         digits.replace('_', "")
+    }
+
+    /// The words of a field.
+    fn digits(words: [u64; 5]) -> String {
+        words.map(|word| format!("{word:016x}")).concat()
     }
 
     #[test]
@@ -213,14 +217,20 @@ mod tests {
             (format!("update 0 0 0 {shapes} -"), 2 * 63),
             (format!("validation 0 {shapes}"), 63),
         ] {
-            let record = recorded(&line).expect("a kind with records");
+            let record = recorded(&line);
             assert_eq!(record.len(), 34 + 20 * written);
             assert_eq!(record[18..20], [0, 70]);
         }
     }
 
     #[test]
-    fn metadata_has_no_records() {
-        assert_eq!(recorded("metadata 0 1 5 00"), None);
+    fn metadata() {
+        let head = "05_01_00000005_0000000000000000_00000001_0000_01_05_0000000000000002_00000001";
+        let words = digits([0, 1, 0, 0, 24 + 3 * 256]);
+        check("metadata 0 1 5 00", &[&plain(head), "00", &words]);
+        let head = "05_00_00000000_0000000000000001_00000001_0000_00_00_0000000000000008_00000004";
+        check("metadata 1 0 0 a0", &[&plain(head), "a0"]);
+        let head = "05_00_00000000_0000000000000000_00000002_0000_02_23_0000000000000010_00000005";
+        check("metadata 0 0 0 8178", &[&plain(head), "8178"]);
     }
 }

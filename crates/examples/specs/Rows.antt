@@ -1,5 +1,5 @@
 -- Document 01's worked examples as rows, and the one claim that all of them hold of the definitions.
-use Prim.Native.Nat.{ℕ, _*_}
+use Prim.Native.Nat.{ℕ, _*_, _/_, _%_, _^_}
 use mathlib.Core.Path.{_≡_}
 use mathlib.Core.List.{List, [], _∷_, map}
 use mathlib.Core.Bool.{false}
@@ -9,6 +9,7 @@ use Rattle.rules.specs.Reading.{Reading, reading}
 use Rattle.rules.specs.Derived.{escaped}
 use Rattle.rules.specs.Answer.{outcomeOf, outcomeNumber, valueOr}
 use Rattle.validation.specs.Rank.{parents}
+use Rattle.compression.specs.Probability.{floats}
 use Rattle.claims.specs.Book.{Packet, bookScene, bookFirst, bookReading, bookShapes}
 
 -- an example of each kind: what is read, from the first bit on and with recording off
@@ -19,6 +20,8 @@ pub data Example : Type 0 where
   sceneIn : (bytes : List ℕ) → Example
   -- a packet after a scene and the packets before it, refused ones included
   packetAfter : (scene : List ℕ) (before : List (List ℕ)) (bytes : List ℕ) → Example
+  -- a table's probabilities at precision 32, of these patterns
+  probabilitiesOf : (patterns : List ℕ) → Example
 
 -- and what it gives: the number (0 if read), the bit position, how many fields, and the value, or the parents of the shapes
 pub record Row : Type 0 where
@@ -37,11 +40,16 @@ row example x values none = record {
   values = values (valueOr none (x .result));
 }
 
-abbrev pub whole : List ℕ → Rule ℕ → Reading ℕ
+abbrev pub whole : {A : Type 0} → List ℕ → Rule A → Reading A
 whole bs r = reading (record { bytes = bs; recording = false; room = 0 }) r 0 (8 * length bs) 0
 
 abbrev pub packetIn : List ℕ → Packet
 packetIn bs = record { bytes = bs; offset = 0; recording = false; room = 0 }
+
+-- patterns of 32 bits as bytes, most significant first
+abbrev pub bytesOf : List ℕ → List ℕ
+bytesOf [] = []
+bytesOf (x ∷ xs) = x / 2 ^ 24 ∷ x / 2 ^ 16 % 256 ∷ x / 2 ^ 8 % 256 ∷ x % 256 ∷ bytesOf xs
 
 abbrev pub given : Example → Row
 given (escapedIn bs widths) = row (escapedIn bs widths) (whole bs (escaped 0 widths)) (λ v. v ∷ []) 0
@@ -49,6 +57,7 @@ given (sceneIn bs) = row (sceneIn bs) (bookScene (packetIn bs)) parents []
 given (packetAfter scene before bs) =
     let shapes = bookShapes (map packetIn before) (bookFirst (packetIn scene)) in
     row (packetAfter scene before bs) (bookReading (packetIn bs) shapes) parents shapes
+given (probabilitiesOf xs) = row (probabilitiesOf xs) (whole (bytesOf xs) (floats 0 (length xs))) (λ _. []) tt
 
 abbrev pub AllHold : List Row → Type 0
 AllHold [] = Unit {0}
@@ -82,4 +91,8 @@ rows =
     record { example = packetAfter part0 [] part1; number = 9; position = 13; fields = 8; values = 0 ∷ 1 ∷ [] } ∷
     record { example = packetAfter part0 (part1 ∷ []) part2; number = 0; position = 7; fields = 7; values = 0 ∷ 0 ∷ [] } ∷
     record { example = packetAfter part0 (part1 ∷ part2 ∷ []) part3; number = 0; position = 13; fields = 8; values = 2 ∷ 0 ∷ [] } ∷
+    -- probabilities: 2^-24 added to 1 is lost, and again; two of them before it are not; -0 passes
+    record { example = probabilitiesOf (0x3F80_0000 ∷ 0x3380_0000 ∷ 0x3380_0000 ∷ 0 ∷ []); number = 0; position = 128; fields = 4; values = [] } ∷
+    record { example = probabilitiesOf (0x3380_0000 ∷ 0x3380_0000 ∷ 0x3F80_0000 ∷ 0 ∷ []); number = 22; position = 128; fields = 4; values = [] } ∷
+    record { example = probabilitiesOf (0x8000_0000 ∷ 0x3F80_0000 ∷ []); number = 0; position = 64; fields = 2; values = [] } ∷
     []

@@ -1,5 +1,5 @@
 -- The primitives of rules, one law for each answer to each question.
-use Prim.Native.Nat.{ℕ, _+_, _-_, _*_, _<_, _≤_}
+use Prim.Native.Nat.{ℕ, _+_, _-_, _*_, _/_, _<_, _≤_}
 use mathlib.Core.Path.{_≡_, refl, sym, _∙_}
 use mathlib.Core.List.{List, [], _∷_}
 use mathlib.Core.Bool.{Bool, true, false, not}
@@ -104,14 +104,18 @@ module _ {s : State} (q : Sound s) where
     unfolding setEnd reading
     end-back {x} l e = for-words (λ ws. ends-here (setEnd x) (refused 3) (Refused 3) refl (rw (lt-leb _ _ l)) e)
 
-    pub end-past : {x : ℕ} {bs : List ℕ} {t : State} → s .position ≤ x → 8 * length bs < x → t ≡ endedBy s (Refused 3) → MetByBytes (setEnd x) bs s tt t
+    pub end-past : {x : ℕ} {bs : List ℕ} {t : State} → s .position ≤ x → length bs < (x + 7) / 8 → t ≡ endedBy s (Refused 3) → MetByBytes (setEnd x) bs s tt t
     unfolding setEnd reading
-    end-past {x} l m e = for-words (λ ws. ends-here (setEnd x) (refused 3) (Refused 3) refl (rw (le-leb _ _ l, lt-leb _ _ m)) e)
+    end-past {x} {bs} l m e =
+        let past : 8 * length bs < x = omega arith in
+        for-words (λ ws. ends-here (setEnd x) (refused 3) (Refused 3) refl (rw (le-leb _ _ l, lt-leb _ _ past)) e)
 
-    pub end-set : {x : ℕ} {bs : List ℕ} {t : State} → s .position ≤ x → x ≤ 8 * length bs → length bs ≤ 8388608 →
+    pub end-set : {x : ℕ} {bs : List ℕ} {t : State} → s .position ≤ x → (x + 7) / 8 ≤ length bs → x ≤ 67108864 →
         t ≡ movedTo s (s .position) x (s .fields) → MetByBytes (setEnd x) bs s tt t
     unfolding setEnd reading
-    end-set {x} l m o e = for-words (λ ws. goes-on (setEnd x) _ _ l (omega arith) (rw (le-leb _ _ l, le-leb _ _ m)) e)
+    end-set {x} {bs} l m o e =
+        let there : x ≤ 8 * length bs = omega arith in
+        for-words (λ ws. goes-on (setEnd x) _ _ l o (rw (le-leb _ _ l, le-leb _ _ there)) e)
 
     module _ (name start : ℕ) (v : FieldValue) {ws : List ℕ} {t : State} where
       pub field-many : 16384 ≤ s .fields → t ≡ endedBy s (Refused 4) → MetByWords (field name start v) ws s tt t ws

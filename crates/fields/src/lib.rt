@@ -65,7 +65,7 @@ fn skip(s: State, width: usize) -> State
 // `BitReader::set_end`: the window ends at bit `x` from here on.
 pub fn set_end(bytes: &[u8], s: State, x: usize) -> State
     requires { ⌜ Sound s ⌝ }
-    requires { ⌜ length (now bytes) ≤ 8388608 ⌝ }
+    requires { ⌜ x ≤ 67108864 ⌝ }
     ensures { λ r. ⌜ MetByBytes (setEnd x) (now (bytes .entry)) s tt r ⌝ }
 {
     if !s.is_read() {
@@ -74,7 +74,7 @@ pub fn set_end(bytes: &[u8], s: State, x: usize) -> State
     if x < s.position {
         return s.ended(Outcome::Refused(3));
     }
-    if 8 * bytes.len() < x {
+    if bytes.len() < (x + 7) / 8 {
         return s.ended(Outcome::Refused(3));
     }
     s.moved(s.position, x, s.fields)

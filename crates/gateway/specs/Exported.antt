@@ -32,7 +32,7 @@ exported a = record {
   fields = a .fields;
 }
 
--- an answer of a scene of which the promise holds, as it crosses; and so for an update and a position
+-- an answer of a scene of which the promise holds, as it crosses; and so for an update, a position and metadata
 pub record SceneExported (x : Reading (List PositionSyntax)) (rec : Bool) (ws : List ℕ) (r : GatewayScene) (vs : List ℕ) : Type 0 where
   pub scene : SceneAnswer
   pub answered : SceneAnswered x rec ws scene vs
@@ -47,3 +47,8 @@ pub record PositionExported (x : Reading PositionSyntax) (shape : PositionSyntax
   pub answer : Answer
   pub answered : Answered x shape rec ws answer (r .shape) vs
   pub same : r .answer ≡ exported answer
+
+pub record MetadataExported (x : Reading (Unit {0})) (rec : Bool) (ws : List ℕ) (r : GatewayAnswer) (vs : List ℕ) : Type 0 where
+  pub answer : Answer
+  pub answered : Answered x tt rec ws answer tt vs
+  pub same : r ≡ exported answer

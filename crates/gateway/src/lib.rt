@@ -10,7 +10,8 @@ ghost use Rattle.position.specs.Entry.{positionReading};
 ghost use Rattle.validation.specs.Validation.{validationReading};
 ghost use Rattle.scene.specs.Scene.{sceneReading};
 ghost use Rattle.update.specs.Update.{updateReading};
-ghost use Rattle.gateway.specs.Exported.{exported, SceneExported, UpdateExported, PositionExported};
+ghost use Rattle.metadata.specs.Entry.{metadataReading};
+ghost use Rattle.gateway.specs.Exported.{exported, SceneExported, UpdateExported, PositionExported, MetadataExported};
 
 // An answer: the outcome is 0 if read, 1 if refused and 2 if stopped, and the number 0 if read.
 #[repr(C)]
@@ -133,6 +134,20 @@ pub extern "C" fn gateway_position(
     let answer = exported(told);
     let to = a.shape;
     GatewayPosition { answer, shape: to }
+}
+
+// `metadata::read_metadata`
+#[no_mangle]
+pub extern "C" fn gateway_metadata(
+    bytes: &[u8],
+    offset: usize,
+    recording: bool,
+    words: &mut [u64],
+) -> GatewayAnswer
+    ensures { λ r. ⌜ MetadataExported (metadataReading (inputOf (now (bytes .entry)) recording (now (words .entry))) offset) recording (now (words .entry)) r (now (words .exit)) ⌝ }
+{
+    let told = metadata::read_metadata(bytes, offset, recording, words);
+    exported(told)
 }
 
 // `validation::validate_graph`

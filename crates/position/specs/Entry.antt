@@ -2,7 +2,7 @@
 use Prim.Native.Nat.{ℕ}
 use mathlib.Core.Bool.{Bool, _&&_}
 use lib.Dec.{leb}
-use Rattle.rules.specs.Name.{prefix}
+use Rattle.rules.specs.Block.{positions}
 use Rattle.rules.specs.Rule.{pick}
 use Rattle.rules.specs.Reading.{Reading, Input}
 use Rattle.rules.specs.Answer.{entryReading}
@@ -19,4 +19,4 @@ shapeQuestion sh = pick (isShaped sh) 0 2
 
 -- full or not, with the names of the first position of a scene
 abbrev pub positionReading : Input → ℕ → PositionSyntax → Bool → Reading PositionSyntax
-positionReading i offset sh full = entryReading i (shapeQuestion sh) offset (position (prefix 2 0 0) sh full)
+positionReading i offset sh full = entryReading i (shapeQuestion sh) offset (position (positions 0) sh full)

@@ -1,5 +1,4 @@
 pub mod Shape
-pub mod Leaf
 pub mod Position
 pub mod Formed
 pub mod Entry

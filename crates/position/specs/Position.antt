@@ -5,11 +5,11 @@ use mathlib.Core.Bool.{Bool, true, false, _&&_}
 use lib.Dec.{eqb}
 use lib.ListN.{take as takeN}
 use Rattle.rules.specs.Name.{third}
+use Rattle.rules.specs.Leaf as leaf
 use Rattle.rules.specs.Rule.{Rule, done, _>>=_, _>>_, pick}
 use Rattle.rules.specs.Derived.{take, flag, passiveBits, passiveValues, invalid}
 use Rattle.position.specs.declared.PositionSyntax.{PositionSyntax}
 use Rattle.position.specs.Shape.{withDynamics, withPrecisions, withParent, withPolar}
-use Rattle.position.specs.Leaf as leaf
 
 -- a precision: twice its field, at most 24
 abbrev pub precisionOf : ℕ → ℕ
@@ -118,7 +118,7 @@ unfoldable pub extensionBody : ℕ → Rule (Unit {0})
 extensionBody q = do
   w ← take (q + leaf.lengthWidthMinusFour) 4
   n ← take (q + leaf.bitsMinusOne) (w + 4)
-  passiveBits (q + leaf.payload) (n + 1)
+  passiveBits (q + leaf.extensionPayload) (n + 1)
 
 -- one extension, and whether more may follow: type 0 is the last
 unfoldable pub extension : ℕ → Rule Bool

@@ -3,10 +3,12 @@ use fields::Flagged;
 use rules::Answer;
 use rules::Field;
 use rules::State;
+use rules::block;
+use rules::leaf;
 ghost use mathlib.Core.Path.{_≡_};
 ghost use Prim.Native.Nat.{_≤_, _<_, _^_};
 ghost use lib.ListN.{length};
-ghost use Rattle.rules.specs.Name.{prefix};
+ghost use Rattle.rules.specs.Block.{positions};
 ghost use Rattle.rules.specs.Rule.{pick};
 ghost use Rattle.rules.specs.Reading.{isRead};
 ghost use Rattle.rules.specs.Answer.{inputOf, entryThen, Answered};
@@ -38,49 +40,6 @@ pub struct PositionAnswer {
     pub answer: Answer,
     pub shape: PositionSyntax,
 }
-
-// The leaves of a position's names (docs/FIELDS.md).
-const PARENT_DYNAMIC: u64 = 2;
-
-const RANGE_DYNAMIC: u64 = 3;
-
-const POSITION_PRECISION_ENCODED: u64 = 4;
-
-const ROTATION_PRECISION_ENCODED: u64 = 5;
-
-const PARENT_UPDATE: u64 = 6;
-
-const ABSOLUTE_PARENT: u64 = 7;
-
-const PARENT_INDEX: u64 = 8;
-
-const RANGE_UPDATE: u64 = 9;
-
-const RANGE_ENCODED: u64 = 10;
-
-const POSITION_PRESENT: u64 = 11;
-
-const POSITION_DELTA: u64 = 12;
-
-const POLAR: u64 = 13;
-
-const POSITION_ENCODED: u64 = 14;
-
-const ROTATION_PRESENT: u64 = 15;
-
-const ROTATION_DELTA: u64 = 16;
-
-const ROTATION_ENCODED: u64 = 17;
-
-const EXTENSIONS_PRESENT: u64 = 18;
-
-const EXTENSION_TYPE: u64 = 19;
-
-const LENGTH_WIDTH_MINUS_FOUR: u64 = 20;
-
-const BITS_MINUS_ONE: u64 = 21;
-
-const PAYLOAD: u64 = 22;
 
 impl PositionSyntax {
     // The shape before anything is read.
@@ -165,14 +124,6 @@ impl PositionSyntax {
     }
 }
 
-// What the names of position `i` begin with, counted from 0: `ancillary.scene_graph.positions[i]`.
-pub fn prefix(i: u64) -> u64
-    requires { ⌜ i < 8192 ⌝ }
-    ensures { λ r. ⌜ r ≡ prefix 2 i 0 ⌝ }
-{
-    512 + 4096 * i
-}
-
 // Twice the encoded precision, at most 24.
 fn precision(v: u64) -> usize
     ensures { λ r. ⌜ r ≡ precisionOf v ⌝ }
@@ -189,9 +140,9 @@ fn dynamics(bytes: &[u8], words: &mut [u64], s: State, p: u64, shape: PositionSy
     requires { ⌜ p < 2 ^ 38 ⌝ }
     ensures { λ r. ⌜ Met (dynamics p shape) (now (bytes .entry)) (now (words .entry)) s (r .shape) (r .state) (now (words .exit)) ⌝ }
 {
-    let a = fields::flag(bytes, words, s, p + PARENT_DYNAMIC);
+    let a = fields::flag(bytes, words, s, p + leaf::PARENT_DYNAMIC);
     let s1 = a.state;
-    let b = fields::flag(bytes, words, s1, p + RANGE_DYNAMIC);
+    let b = fields::flag(bytes, words, s1, p + leaf::RANGE_DYNAMIC);
     let s2 = b.state;
     let to = shape.with_dynamics(a.value, b.value);
     TakenShape {
@@ -212,9 +163,9 @@ fn precisions(
     requires { ⌜ p < 2 ^ 38 ⌝ }
     ensures { λ r. ⌜ Formed (precisions p shape) (now (bytes .entry)) (now (words .entry)) s (r .shape) (r .state) (now (words .exit)) ⌝ }
 {
-    let a = fields::take(bytes, words, s, p + POSITION_PRECISION_ENCODED, 4);
+    let a = fields::take(bytes, words, s, p + leaf::POSITION_PRECISION_ENCODED, 4);
     let s1 = a.state;
-    let b = fields::take(bytes, words, s1, p + ROTATION_PRECISION_ENCODED, 4);
+    let b = fields::take(bytes, words, s1, p + leaf::ROTATION_PRECISION_ENCODED, 4);
     let s2 = b.state;
     let to = shape.with_precisions(a.value, b.value);
     TakenShape {
@@ -286,7 +237,7 @@ fn new_parent(
     requires { ⌜ p < 2 ^ 38 ⌝ }
     ensures { λ r. ⌜ Formed (newParent p shape) (now (bytes .entry)) (now (words .entry)) s (r .shape) (r .state) (now (words .exit)) ⌝ }
 {
-    let a = fields::flag(bytes, words, s, p + ABSOLUTE_PARENT);
+    let a = fields::flag(bytes, words, s, p + leaf::ABSOLUTE_PARENT);
     let s1 = a.state;
     if a.value {
         let to = shape.with_parent(0);
@@ -295,7 +246,7 @@ fn new_parent(
             shape: to,
         };
     }
-    let b = fields::take(bytes, words, s1, p + PARENT_INDEX, 6);
+    let b = fields::take(bytes, words, s1, p + leaf::PARENT_INDEX, 6);
     let s2 = b.state;
     let to = shape.with_parent(b.value as usize);
     TakenShape {
@@ -322,7 +273,7 @@ fn parent(
         bytes,
         words,
         s,
-        p + PARENT_UPDATE,
+        p + leaf::PARENT_UPDATE,
         shape.parent_dynamic,
         full,
     );
@@ -339,10 +290,10 @@ fn range(bytes: &[u8], words: &mut [u64], s: State, p: u64, dynamic: bool, full:
     requires { ⌜ p < 2 ^ 38 ⌝ }
     ensures { λ r. ⌜ Met (range p dynamic full) (now (bytes .entry)) (now (words .entry)) s tt r (now (words .exit)) ⌝ }
 {
-    let a = changed(bytes, words, s, p + RANGE_UPDATE, dynamic, full);
+    let a = changed(bytes, words, s, p + leaf::RANGE_UPDATE, dynamic, full);
     let s1 = a.state;
     if a.value {
-        let b = fields::take(bytes, words, s1, p + RANGE_ENCODED, 4);
+        let b = fields::take(bytes, words, s1, p + leaf::RANGE_ENCODED, 4);
         return b.state;
     }
     s1
@@ -428,7 +379,7 @@ fn coordinate_values(
         bytes,
         words,
         s,
-        p + POSITION_ENCODED,
+        p + leaf::POSITION_ENCODED,
         Field::THIRD,
         &all[..n],
     )
@@ -448,9 +399,9 @@ fn coordinates(
     requires { ⌜ p < 2 ^ 38 ⌝ }
     ensures { λ r. ⌜ Formed (coordinates p shape full) (now (bytes .entry)) (now (words .entry)) s (r .shape) (r .state) (now (words .exit)) ⌝ }
 {
-    let d = flag_unless(bytes, words, s, p + POSITION_DELTA, full, false);
+    let d = flag_unless(bytes, words, s, p + leaf::POSITION_DELTA, full, false);
     let s1 = d.state;
-    let q = flag_unless(bytes, words, s1, p + POLAR, d.value, shape.polar);
+    let q = flag_unless(bytes, words, s1, p + leaf::POLAR, d.value, shape.polar);
     let s2 = q.state;
     let to = shape.with_polar(q.value);
     let s3 = coordinate_values(
@@ -482,7 +433,7 @@ fn coordinates_if_present(
     requires { ⌜ p < 2 ^ 38 ⌝ }
     ensures { λ r. ⌜ Formed (coordinatesIfPresent p shape full) (now (bytes .entry)) (now (words .entry)) s (r .shape) (r .state) (now (words .exit)) ⌝ }
 {
-    let a = fields::flag(bytes, words, s, p + POSITION_PRESENT);
+    let a = fields::flag(bytes, words, s, p + leaf::POSITION_PRESENT);
     let s1 = a.state;
     if a.value {
         return coordinates(bytes, words, s1, p, shape, full);
@@ -506,7 +457,14 @@ fn rotation_values(
 {
     let a = width(8, precision, delta);
     let all = [a; 4];
-    fields::passive_values(bytes, words, s, p + ROTATION_ENCODED, Field::THIRD, &all)
+    fields::passive_values(
+        bytes,
+        words,
+        s,
+        p + leaf::ROTATION_ENCODED,
+        Field::THIRD,
+        &all,
+    )
 }
 
 // The rotation, if it is there.
@@ -523,10 +481,10 @@ fn rotation(
     requires { ⌜ p < 2 ^ 38 ⌝ }
     ensures { λ r. ⌜ Met (rotation p precision full) (now (bytes .entry)) (now (words .entry)) s tt r (now (words .exit)) ⌝ }
 {
-    let a = fields::flag(bytes, words, s, p + ROTATION_PRESENT);
+    let a = fields::flag(bytes, words, s, p + leaf::ROTATION_PRESENT);
     let s1 = a.state;
     if a.value {
-        let d = flag_unless(bytes, words, s1, p + ROTATION_DELTA, full, false);
+        let d = flag_unless(bytes, words, s1, p + leaf::ROTATION_DELTA, full, false);
         let s2 = d.state;
         return rotation_values(bytes, words, s2, p, precision, d.value);
     }
@@ -539,11 +497,17 @@ fn extension_body(bytes: &[u8], words: &mut [u64], s: State, q: u64) -> State
     requires { ⌜ q < 2 ^ 44 ⌝ }
     ensures { λ r. ⌜ Met (extensionBody q) (now (bytes .entry)) (now (words .entry)) s tt r (now (words .exit)) ⌝ }
 {
-    let w = fields::take(bytes, words, s, q + LENGTH_WIDTH_MINUS_FOUR, 4);
+    let w = fields::take(bytes, words, s, q + leaf::LENGTH_WIDTH_MINUS_FOUR, 4);
     let s1 = w.state;
-    let n = fields::take(bytes, words, s1, q + BITS_MINUS_ONE, w.value as usize + 4);
+    let n = fields::take(
+        bytes,
+        words,
+        s1,
+        q + leaf::BITS_MINUS_ONE,
+        w.value as usize + 4,
+    );
     let s2 = n.state;
-    fields::passive_bits(words, s2, q + PAYLOAD, n.value as usize + 1)
+    fields::passive_bits(words, s2, q + leaf::EXTENSION_PAYLOAD, n.value as usize + 1)
 }
 
 // One extension, and whether more may follow: type 0 is the last.
@@ -552,7 +516,7 @@ fn extension(bytes: &[u8], words: &mut [u64], s: State, q: u64) -> Flagged
     requires { ⌜ q < 2 ^ 44 ⌝ }
     ensures { λ r. ⌜ Met (extension q) (now (bytes .entry)) (now (words .entry)) s (r .value) (r .state) (now (words .exit)) ⌝ }
 {
-    let a = fields::take(bytes, words, s, q + EXTENSION_TYPE, 4);
+    let a = fields::take(bytes, words, s, q + leaf::EXTENSION_TYPE, 4);
     let s1 = a.state;
     if a.value == 0 {
         return Flagged {
@@ -592,7 +556,7 @@ fn extensions_if_present(bytes: &[u8], words: &mut [u64], s: State, p: u64) -> S
     requires { ⌜ p < 2 ^ 38 ⌝ }
     ensures { λ r. ⌜ Met (extensionsIfPresent p) (now (bytes .entry)) (now (words .entry)) s tt r (now (words .exit)) ⌝ }
 {
-    let a = fields::flag(bytes, words, s, p + EXTENSIONS_PRESENT);
+    let a = fields::flag(bytes, words, s, p + leaf::EXTENSIONS_PRESENT);
     let s1 = a.state;
     if a.value {
         return extensions(bytes, words, s1, p);
@@ -676,11 +640,11 @@ fn entered(
     full: bool,
 ) -> TakenShape
     requires { ⌜ Sound s ⌝ }
-    ensures { λ r. ⌜ Met (entryThen (length (now (bytes .entry))) (shapeQuestion shape) offset (position (prefix 2 0 0) shape full)) (now (bytes .entry)) (now (words .entry)) s (r .shape) (r .state) (now (words .exit)) ⌝ }
+    ensures { λ r. ⌜ Met (entryThen (length (now (bytes .entry))) (shapeQuestion shape) offset (position (positions 0) shape full)) (now (bytes .entry)) (now (words .entry)) s (r .shape) (r .state) (now (words .exit)) ⌝ }
 {
     if shape.is_shaped() {
         let t = fields::entry(bytes, s, 0, offset);
-        return position(bytes, words, t, prefix(0), shape, full);
+        return position(bytes, words, t, block::POSITIONS, shape, full);
     }
     let t = fields::entry(bytes, s, 2, offset);
     TakenShape { state: t, shape }

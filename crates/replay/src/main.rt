@@ -128,10 +128,19 @@ fn field(bytes: &[u8], words: &mut [u64], s: State, o: Operation) -> State
     fields::label(bytes, words, s, o.name)
 }
 
+// An end for a window. One past every input is as good as the least such.
+fn limited(x: usize) -> usize
+    ensures { λ r. ⌜ r ≤ 67108864 ⌝ }
+{
+    if 67108864 < x {
+        return 67108864;
+    }
+    x
+}
+
 // The operations that make none: a count, a window, a refusal, a stop.
 fn question(bytes: &[u8], s: State, o: Operation) -> State
     requires { ⌜ Sound s ⌝ }
-    requires { ⌜ length (now bytes) ≤ 8388608 ⌝ }
     ensures { λ r. ⌜ Sound r ⌝ }
 {
     let code = o.code;
@@ -144,7 +153,7 @@ fn question(bytes: &[u8], s: State, o: Operation) -> State
         return t.state;
     }
     if code == 6 {
-        return fields::set_end(bytes, s, o.a);
+        return fields::set_end(bytes, s, limited(o.a));
     }
     if code == 7 {
         return fields::invalid(s, o.a as u64);
@@ -157,7 +166,6 @@ fn question(bytes: &[u8], s: State, o: Operation) -> State
 
 fn step(bytes: &[u8], words: &mut [u64], s: State, o: Operation) -> State
     requires { ⌜ Sound s ⌝ }
-    requires { ⌜ length (now bytes) ≤ 8388608 ⌝ }
     ensures { λ r. ⌜ Sound r ⌝ }
 {
     let code = o.code;
@@ -170,7 +178,6 @@ fn step(bytes: &[u8], words: &mut [u64], s: State, o: Operation) -> State
 // An operation as often as it says.
 fn repeated(bytes: &[u8], words: &mut [u64], s: State, o: Operation) -> State
     requires { ⌜ Sound s ⌝ }
-    requires { ⌜ length (now bytes) ≤ 8388608 ⌝ }
     ensures { λ r. ⌜ Sound r ⌝ }
 {
     let mut t = s;
@@ -183,7 +190,6 @@ fn repeated(bytes: &[u8], words: &mut [u64], s: State, o: Operation) -> State
 // The operations of a record, read from standard input one after the other.
 fn operations(bytes: &[u8], words: &mut [u64], s: State, n: u64) -> State
     requires { ⌜ Sound s ⌝ }
-    requires { ⌜ length (now bytes) ≤ 8388608 ⌝ }
     ensures { λ r. ⌜ Sound r ⌝ }
 {
     let mut t = s;
@@ -333,9 +339,7 @@ fn count(head: &[u8; 34]) -> usize {
 }
 
 // Operations on one reading, from a fresh state.
-fn run_fields(head: &[u8; 34], bytes: &[u8], words: &mut [u64]) -> Ran
-    requires { ⌜ length (now bytes) ≤ 8388608 ⌝ }
-{
+fn run_fields(head: &[u8; 34], bytes: &[u8], words: &mut [u64]) -> Ran {
     let s = State::fresh(recording(head), 0);
     let t = fields::entry(bytes, s, 0, offset(head));
     let u = operations(bytes, words, t, count(head) as u64);
@@ -384,10 +388,14 @@ fn run_validation(head: &[u8; 34]) -> Ran {
     Ran { answer, same: true }
 }
 
-// A record of its kind: 0 operations, 1 scene, 2 update, 3 position, 4 validation.
-fn run_kind(head: &[u8; 34], bytes: &[u8], words: &mut [u64]) -> Ran
-    requires { ⌜ length (now bytes) ≤ 8388608 ⌝ }
-{
+// A metadata configuration, which gives no shapes.
+fn run_metadata(head: &[u8; 34], bytes: &[u8], words: &mut [u64]) -> Ran {
+    let answer = metadata::read_metadata(bytes, offset(head), recording(head), words);
+    Ran { answer, same: true }
+}
+
+// A record of its kind: 0 operations, 1 scene, 2 update, 3 position, 4 validation, 5 metadata.
+fn run_kind(head: &[u8; 34], bytes: &[u8], words: &mut [u64]) -> Ran {
     let kind = number(head, 0, 1);
     if kind == 1 {
         return run_scene(head, bytes, words);
@@ -400,6 +408,9 @@ fn run_kind(head: &[u8; 34], bytes: &[u8], words: &mut [u64]) -> Ran
     }
     if kind == 4 {
         return run_validation(head);
+    }
+    if kind == 5 {
+        return run_metadata(head, bytes, words);
     }
     run_fields(head, bytes, words)
 }
@@ -416,9 +427,7 @@ fn written(recording: bool, fields: usize) -> usize {
 }
 
 // Whether one record, in the input and the words that it is lent, is answered as the Rust did.
-fn run(head: &[u8; 34], bytes: &mut [u8], words: &mut [u64]) -> bool
-    requires { ⌜ length (now bytes) ≤ 8388608 ⌝ }
-{
+fn run(head: &[u8; 34], bytes: &mut [u8], words: &mut [u64]) -> bool {
     let got = io::read_full(STDIN_FILENO, bytes);
     clear(words);
     let r = run_kind(head, bytes, words);
@@ -441,9 +450,7 @@ fn buffer() -> [u64; 98304]
 }
 
 // One record, if there is one more: of a known kind, with an input and words for which there is room.
-fn one(tally: Tally, bytes: &mut [u8], words: &mut [u64]) -> Tally
-    requires { ⌜ length (now bytes) ≤ 8388608 ⌝ }
-{
+fn one(tally: Tally, bytes: &mut [u8], words: &mut [u64]) -> Tally {
     let mut head = [0u8; 34];
     let got = io::read_full(STDIN_FILENO, &mut head);
     let size = number(&head, 14, 4) as usize;
@@ -451,7 +458,7 @@ fn one(tally: Tally, bytes: &mut [u8], words: &mut [u64]) -> Tally
     if got < 34 {
         return tally.ended(got == 0);
     }
-    if 4 < number(&head, 0, 1) {
+    if 5 < number(&head, 0, 1) {
         return tally.ended(false);
     }
     if bytes.len() < size {

@@ -5,7 +5,7 @@ use mathlib.Core.List.{List, [], _∷_}
 use mathlib.Core.Bool.{Bool, true, false, _&&_}
 use native.Mathlib.Omega.{arith}
 use native.Mathlib.Nat.{add-zero, add-assoc}
-use borrow.Author.Tests.{eq-eqb, ne-eqb}
+use borrow.Author.Tests.{eq-eqb, ne-eqb, le-leb, lt-leb}
 use lib.ListN.{length, length-append}
 use Rattle.rules.specs.declared.State.{State}
 use Rattle.rules.specs.declared.Field.{Field}
@@ -166,6 +166,9 @@ module _ {B : Type 0} (f : ℕ → Rule B) {bs ws : List ℕ} {s : State} {b : B
   pub first-position : Sound s → Met (f (s .position)) bs ws s b u us → Met (position >>= f) bs ws s b u us
   first-position q y = first f (here q) y
 
+  pub first-end : Sound s → Met (f (s .end)) bs ws s b u us → Met (end >>= f) bs ws s b u us
+  first-end q y = first f (there q) y
+
   pub first-remaining : Sound s → Met (f (s .end - s .position)) bs ws s b u us → Met (remaining >>= f) bs ws s b u us
   unfolding remaining
   first-remaining q y = first f (first _ (there q) (first _ (here q) (last q))) y
@@ -214,4 +217,7 @@ module _ {B : Type 0} (x : End) (f : Unit {0} → Rule B) {bs ws : List ℕ} {s 
   demand-broken q y = rw q (ended-as y)
 
 pub ruleset readings =
-    (first, first-by-bytes, first-by-words, first-alone, first-position, first-remaining, by-bytes, by-words, alone, last, last-as, if-true, if-false, if-true-by, if-false-by, eq-eqb, ne-eqb)
+    (first, first-by-bytes, first-by-words, first-alone, first-position, first-end, first-remaining, by-bytes, by-words, alone, last, last-as, if-true, if-false, if-true-by, if-false-by, eq-eqb, ne-eqb)
+
+-- and questions of a number's size, which the code asks by a test of its own
+pub ruleset questions = (demand-kept, demand-broken, le-leb, lt-leb)

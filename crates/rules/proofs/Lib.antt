@@ -5,4 +5,6 @@ pub mod Forward
 pub mod Laws
 pub mod Left
 pub mod Each
+pub mod Fold
+pub mod Choice
 pub mod Answers

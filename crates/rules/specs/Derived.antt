@@ -1,7 +1,7 @@
--- The kinds of fields and questions, each written as the Rust's method of that name.
+-- The kinds of fields and questions, each written as the Rust's method of that name, and the Rust's `match` and `for`.
 use Prim.Native.Nat.{ℕ, zero, suc, _+_, _-_, _*_, _^_}
 use mathlib.Core.List.{List, [], _∷_}
-use mathlib.Core.Bool.{Bool, not, _&&_}
+use mathlib.Core.Bool.{Bool, false, not, _&&_, _||_}
 use lib.Dec.{leb, eqb}
 use Rattle.rules.specs.declared.FieldValue.the-variants.{Flag, Number, Bits, Bytes}
 use Rattle.rules.specs.Rule.{Rule, done, ends, End, refused, stopped, _>>=_, _>>_, pick, position, end, bits, skip, setEnd, field}
@@ -61,6 +61,23 @@ passiveValues name step (w ∷ ws) = do
   take name w
   passiveValues (name + step) step ws
 
+-- An arm of a `match`: its keys, and its rule.
+infix 68 _⇒_
+pub data Arm (A : Type 0) : Type 0 where
+  _⇒_ : List ℕ → Rule A → Arm A
+
+abbrev pub among : ℕ → List ℕ → Bool
+among kind [] = false
+among kind (k ∷ ks) = eqb kind k || among kind ks
+
+-- `match kind { .. }`: the rule of the arm that has the number among its keys, or `other`
+abbrev pub armOf : {A : Type 0} → ℕ → List (Arm A) → Rule A → Rule A
+armOf kind [] other = other
+armOf kind ((keys ⇒ r) ∷ arms) other = pick (among kind keys) r (armOf kind arms other)
+
+unfoldable pub choose : {A : Type 0} → ℕ → List (Arm A) → Rule A → Rule A
+choose kind arms other = armOf kind arms other
+
 -- `for (i, x) in list.iter_mut().enumerate()`: each value is replaced by what its rule gives, the first being number `i`
 unfoldable pub each : {A : Type 0} → (ℕ → A → Rule A) → ℕ → List A → Rule (List A)
 each f i [] = done []
@@ -68,6 +85,16 @@ each f i (x ∷ xs) = do
   y ← f i x
   ys ← each f (i + 1) xs
   done (y ∷ ys)
+
+-- `for i in i..i + n { .. }`, with a value that goes from one turn to the next; and without one, from 0 on
+unfoldable pub fold : {A : Type 0} → (ℕ → A → Rule A) → ℕ → ℕ → A → Rule A
+fold f i zero a = done a
+fold f i (suc n) a = do
+  b ← f i a
+  fold f (i + 1) n b
+
+abbrev pub repeat : (ℕ → Rule (Unit {0})) → ℕ → Rule (Unit {0})
+repeat f n = fold (λ i _. f i) 0 n tt
 
 -- the bytes of a label, of which `n` are read and at most `k` follow: how many there are with the zero byte
 unfoldable pub labelBytes : ℕ → ℕ → Rule ℕ

@@ -1,4 +1,6 @@
 pub mod Name
+pub mod Block
+pub mod Leaf
 pub mod Rule
 pub mod Reading
 pub mod Derived

@@ -3,6 +3,9 @@ ghost use mathlib.Core.Path.{_≡_};
 ghost use Rattle.rules.specs.Reading.{isRead};
 ghost use Rattle.rules.specs.Words.{kindOf, numberOf, isValue, valueFrom, fieldAt};
 
+pub mod block;
+pub mod leaf;
+
 // How a reading ended. In a state, `Read` is all that was asked so far.
 pub enum Outcome {
     Read,
@@ -182,8 +185,15 @@ impl FieldValue {
 }
 
 impl Field {
-    // One more in the first index of a leaf: the names of a list of fields are so far apart.
+    // One more in each index of a name word, of which a block has the first two and a leaf the others: the names of a list
+    // of fields are so far apart.
+    pub const FIRST: u64 = 4096;
+
+    pub const SECOND: u64 = 33554432;
+
     pub const THIRD: u64 = 274877906944;
+
+    pub const FOURTH: u64 = 2251799813685248;
 
     // The field of that index in recorded words, by value.
     pub fn at(words: &[u64], index: usize) -> Found

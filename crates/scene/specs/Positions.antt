@@ -5,26 +5,23 @@ use mathlib.Core.List.{List}
 use mathlib.Core.Bool.{Bool, true, false}
 use lib.ListN.{length, take, drop}
 use Rattle.rules.specs.declared.State.{State}
-use Rattle.rules.specs.Name.{prefix}
+use Rattle.rules.specs.Block as block
+use Rattle.rules.specs.Leaf as leaf
 use Rattle.rules.specs.Rule.{Rule, done, _>>=_, pick}
 use Rattle.rules.specs.Derived.{flag, each}
 use Rattle.rules.specs.Met.{Met}
 use Rattle.position.specs.declared.PositionSyntax.{PositionSyntax}
 use Rattle.position.specs.Position.{position}
 
--- the leaf of `positions[i].updated`
-abbrev pub updated : ℕ
-updated = 23
-
 -- `if parser.flag(updated)? { parser.position(..)?; }`
 unfoldable pub updatedPosition : ℕ → PositionSyntax → Rule PositionSyntax
 updatedPosition p sh = do
-  there ← flag (p + updated)
+  there ← flag (p + leaf.updated)
   pick there (position p sh false) (done sh)
 
 -- position `i`, counted from 0: in a scene all of them are there and full, in an update each has a flag first
 unfoldable pub positionAt : Bool → ℕ → PositionSyntax → Rule PositionSyntax
-positionAt full i sh = pick full (position (prefix 2 i 0) sh true) (updatedPosition (prefix 2 i 0) sh)
+positionAt full i sh = pick full (position (block.positions i) sh true) (updatedPosition (block.positions i) sh)
 
 -- `for (i, shape) in shapes.iter_mut().enumerate()`, in `scene_graph` and in `graph_update`
 unfoldable pub positions : Bool → List PositionSyntax → Rule (List PositionSyntax)

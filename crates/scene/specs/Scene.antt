@@ -5,7 +5,8 @@ use mathlib.Core.List.{List, []}
 use mathlib.Core.Bool.{Bool, true}
 use lib.ListN.{length, take, drop, replicate}
 use Rattle.rules.specs.declared.State.{State}
-use Rattle.rules.specs.Name.{prefix}
+use Rattle.rules.specs.Block as block
+use Rattle.rules.specs.Leaf as leaf
 use Rattle.rules.specs.Rule.{Rule, _>>=_}
 use Rattle.rules.specs.Reading.{Reading, Input}
 use Rattle.rules.specs.Derived.{drcCount}
@@ -16,10 +17,6 @@ use Rattle.validation.specs.Validation.{ifValid}
 use Rattle.scene.specs.declared.SceneAnswer.{SceneAnswer}
 use Rattle.scene.specs.Positions.{positions, Positioned}
 
--- the leaf of `ancillary.scene_graph.count`
-abbrev pub count : ℕ
-count = 1
-
 -- the shapes of 63 positions before anything is read
 unfoldable pub defaults : List PositionSyntax
 defaults = replicate 63 default
@@ -27,7 +24,7 @@ defaults = replicate 63 default
 -- the fields of a scene: the shapes that its validation is asked of
 unfoldable pub sceneFields : Rule (List PositionSyntax)
 sceneFields = do
-  n ← drcCount (prefix 1 0 0 + count) 6 18
+  n ← drcCount (block.sceneGraph + leaf.count) 6 18
   positions true (replicate n default)
 
 unfoldable pub sceneGraph : Rule (List PositionSyntax)

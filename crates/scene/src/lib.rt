@@ -2,7 +2,10 @@
 use position::PositionSyntax;
 use position::TakenShape;
 use rules::Answer;
+use rules::Field;
 use rules::State;
+use rules::block;
+use rules::leaf;
 ghost use mathlib.Core.Path.{_≡_};
 ghost use Prim.Native.Nat.{ℕ, _≤_, _<_, _^_};
 ghost use lib.ListN.{length, getD, take};
@@ -12,13 +15,6 @@ ghost use Rattle.position.specs.Shape.{default};
 ghost use Rattle.position.specs.Formed.{Shaped};
 ghost use Rattle.scene.specs.Positions.{updatedPosition, positionAt, positions, Positioned};
 ghost use Rattle.scene.specs.Scene.{defaults, sceneFields, sceneGraph, sceneReading, SceneAnswered, TookScene};
-
-// The block of names `ancillary.scene_graph`, its leaf `count`, and the leaf `updated` of a position (docs/FIELDS.md).
-const SCENE_GRAPH: u64 = 256;
-
-const COUNT: u64 = 1;
-
-const UPDATED: u64 = 23;
 
 // What a scene answers: the number of its positions, and their shapes, of which those beyond it are the default. Unless
 // it was read there are none.
@@ -76,7 +72,7 @@ fn updated_position(
     requires { ⌜ p < 2 ^ 38 ⌝ }
     ensures { λ r. ⌜ Met (updatedPosition p shape) (now (bytes .entry)) (now (words .entry)) s (r .shape) (r .state) (now (words .exit)) ⌝ }
 {
-    let a = fields::flag(bytes, words, s, p + UPDATED);
+    let a = fields::flag(bytes, words, s, p + leaf::UPDATED);
     let s1 = a.state;
     if a.value {
         return position::position(bytes, words, s1, p, shape, false);
@@ -98,7 +94,7 @@ fn position_at(
     requires { ⌜ i < 63 ⌝ }
     ensures { λ r. ⌜ Met (positionAt full i shape) (now (bytes .entry)) (now (words .entry)) s (r .shape) (r .state) (now (words .exit)) ⌝ }
 {
-    let p = position::prefix(i);
+    let p = block::POSITIONS + Field::FIRST * i;
     if full {
         return position::position(bytes, words, s, p, shape, true);
     }
@@ -141,7 +137,7 @@ fn scene_fields(bytes: &[u8], words: &mut [u64], s: State) -> TakenScene
     requires { ⌜ Sound s ⌝ }
     ensures { λ r. ⌜ TookScene sceneFields (now (bytes .entry)) (now (words .entry)) s (r .count) (r .shapes) (r .state) (now (words .exit)) ⌝ }
 {
-    let n = fields::drc_count(bytes, words, s, SCENE_GRAPH + COUNT, 6, 18);
+    let n = fields::drc_count(bytes, words, s, block::SCENE_GRAPH + leaf::COUNT, 6, 18);
     let s1 = n.state;
     let count = n.value as usize;
     let first = defaults();

@@ -57,9 +57,8 @@ fn asked(call: &Call, words: &mut [u64]) -> Result<(Reading, Vec<request::Shape>
             let position = arguments.position(shape.into(), *full);
             Ok((position.answer, vec![(&position.shape).into()]))
         }
-        Question::Metadata | Question::Fields(_) => {
-            Err(format!("the library has no {}", call.question.kind()))
-        }
+        Question::Metadata => Ok((arguments.metadata(), Vec::new())),
+        Question::Fields(_) => Err("the library has no fields".into()),
     }
 }
 
@@ -124,4 +123,52 @@ fn updated(
     }
     let after = after[..count].iter().map(request::Shape::from);
     Ok(after.chain(given[count..].iter().cloned()).collect())
+}
+
+#[cfg(test)]
+mod tests {
+    use super::*;
+    use oracle::{driver, generate};
+
+    /// The answer of the port, which must be that of the Rust.
+    fn agreed(request: &Request) -> Answer {
+        let by_the_rust = driver::answer(request).in_words();
+        let by_the_port = answer(request);
+        assert_eq!(by_the_port, by_the_rust, "{:.200}", request.to_string());
+        by_the_port.expect("an answer")
+    }
+
+    /// Number, position and count of fields of a request line.
+    fn end(line: &str) -> (u8, u64, usize) {
+        let answer = agreed(&Request::parse(line).expect("a request"));
+        (answer.verdict.number, answer.verdict.position, answer.count)
+    }
+
+    #[test]
+    fn corners_of_metadata() {
+        for corner in generate::corners(1) {
+            for request in &corner.requests {
+                let number = agreed(request).verdict.number;
+                assert_eq!(number, corner.number, "{}", corner.what);
+            }
+        }
+    }
+
+    #[test]
+    fn entry_questions_of_metadata() {
+        let long = "40".repeat(driver::GREATEST_INPUT + 1);
+        assert_eq!(end(&format!("metadata 0 1 20 {long}")), (1, 0, 0));
+        assert_eq!(end(&format!("metadata 0 1 20 {}", &long[2..])), (0, 7, 4));
+        assert_eq!(end("metadata 8 1 20 40"), (3, 8, 0));
+        assert_eq!(end("metadata 9 1 20 40"), (3, 0, 0));
+        assert_eq!(end("metadata 18446744073709551615 0 0 40"), (3, 0, 0));
+    }
+
+    #[test]
+    fn room_for_fields_of_metadata() {
+        assert_eq!(end("metadata 0 1 20 40"), (0, 7, 4));
+        assert_eq!(end("metadata 0 1 19 40"), (5, 7, 3));
+        assert_eq!(end("metadata 0 1 4 40"), (5, 1, 0));
+        assert_eq!(end("metadata 0 0 4 40"), (0, 7, 4));
+    }
 }

@@ -82,6 +82,15 @@ unsafe extern "C" {
         full: bool,
     ) -> PositionReading;
 
+    fn gateway_metadata(
+        bytes: *const u8,
+        bytes_len: usize,
+        offset: usize,
+        recording: bool,
+        words: *mut u64,
+        words_len: usize,
+    ) -> Reading;
+
     pub safe fn gateway_validation(shapes: Shapes, count: usize, at: usize) -> Reading;
 }
 
@@ -113,6 +122,10 @@ macro_rules! call {
 impl Arguments<'_> {
     pub fn scene(self) -> SceneReading {
         call!(gateway_scene, self)
+    }
+
+    pub fn metadata(self) -> Reading {
+        call!(gateway_metadata, self)
     }
 
     pub fn update(self, shapes: Shapes, count: usize) -> UpdateReading {

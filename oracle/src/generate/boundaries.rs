@@ -1,12 +1,10 @@
 //! The worked examples and the limits that document 01 names, met exactly and missed by one.
 use super::batch::{Batch, Input, Record};
-use super::compression::{
-    code_window, exact, flat_window, lzw_window, probability_window, section,
-};
+use super::compression::{code_window, exact, flat_window, lzw_window, section};
 use super::draft::{Draft, drafted};
-use super::metadata::{self, ESC, Metadata, write_headphones, write_layout};
+use super::metadata::{self, Metadata, least_group, of_kind};
 use super::positions::{EXTENSIONS, some_shape, write_largest};
-use super::renderer::{self, write_coefficients};
+use super::renderer;
 use super::variants::Good;
 use crate::bits::Bits;
 use crate::driver::{GREATEST_COUNT, GREATEST_INPUT, GREATEST_PRECISION};
@@ -14,29 +12,8 @@ use crate::request::{Question, Shape};
 use crate::rng::Rng;
 use crate::text::unhex;
 
-/// Binary32 patterns: what document 01 names, and the edges of its rules.
-const PROBABILITIES: [&[u32]; 9] = [
-    &[0x3f80_0000, 0x3380_0000, 0x3380_0000, 0],
-    &[0x3380_0000, 0x3380_0000, 0x3f80_0000, 0],
-    &[0x8000_0000, 0x3f80_0000],
-    &[0x3f00_0000, 0x3f00_0000],
-    &[0x3f00_0000, 0x3eff_ffff],
-    &[0x3f80_0000, 0x8000_0001],
-    &[0x7f80_0000, 0x3f80_0000],
-    &[0x7fc0_0000, 0x3f80_0000],
-    &[0x7f7f_ffff, 0x7f7f_ffff],
-];
-
-/// Metadata of the findings: speakers asked for 33 bits each, and a width of 36.
-const FINDINGS: [(u64, &str); 3] = [
-    (1, "3190000055048443b5048443b5048443b5048443b5048443b0"),
-    (0, "63200000aa0908876a0908876a0908876a0908876a09088760"),
-    (0, "421889e0ffffffffffffffffff"),
-];
-
 pub fn boundaries(batch: &mut Batch<'_>) {
     examples(batch);
-    findings(batch);
     extensions(batch);
     shapes(batch);
     labels(batch);
@@ -48,13 +25,12 @@ pub fn boundaries(batch: &mut Batch<'_>) {
     lzw_windows(batch);
     empty_windows(batch);
     tables(batch);
-    probabilities(batch);
     field_limit(batch);
     most_fields(batch);
     input_limit(batch);
 }
 
-fn bytes(hex: &str) -> Vec<u8> {
+pub fn bytes(hex: &str) -> Vec<u8> {
     unhex(hex).expect("digits of the generator")
 }
 
@@ -77,13 +53,6 @@ pub fn examples(batch: &mut Batch<'_>) {
             let question = question.clone();
             batch.every_offset(&Good { question, bits });
         }
-    }
-}
-
-fn findings(batch: &mut Batch<'_>) {
-    for (offset, hex) in FINDINGS {
-        let bytes = bytes(hex);
-        batch.call(&Question::Metadata, Input { offset, bytes }, Record::Ample);
     }
 }
 
@@ -121,19 +90,17 @@ pub fn extended_position(rng: &mut Rng, full: bool, count: usize) -> Good {
 fn extended(rng: &mut Rng, count: usize) -> [Good; 4] {
     let position = drafted(rng, |d| write_largest(d, true, count));
     let [scene, update] = extended_graphs(rng, &position, count);
-    let global = drafted(rng, |d| {
-        d.esc(11, ESC);
-        d.append(&position);
-    });
-    let rendered = drafted(rng, |d| {
-        d.esc(18, ESC);
-        d.append(&position);
-    });
+    let [global, rendered] = extended_parameters(rng, count).map(|metadata| metadata.good(rng));
+    [scene, update, global, rendered]
+}
+
+/// A global parameter and one of a renderer, each a position with so many extensions.
+pub fn extended_parameters(rng: &mut Rng, count: usize) -> [Metadata; 2] {
+    let [global, rendered] =
+        [11, 18].map(|kind| of_kind(rng, kind, |d| write_largest(d, true, count)));
     [
-        scene,
-        update,
-        Metadata::with_parameters(vec![global]).good(rng),
-        Metadata::with_renderer(rng, &[rendered]).good(rng),
+        Metadata::with_parameters(vec![global]),
+        Metadata::with_renderer(rng, &[rendered]),
     ]
 }
 
@@ -194,10 +161,7 @@ fn imprecise(batch: &mut Batch<'_>, shape: Shape) {
 fn labels(batch: &mut Batch<'_>) {
     for length in [0, 1, 4_095, 4_096, 4_097, 4_098] {
         for speakers in [0, 1, 255] {
-            let layout = drafted(batch.rng, |d| {
-                d.esc(9, ESC);
-                write_layout(d, length, speakers);
-            });
+            let layout = metadata::layout(batch.rng, length, speakers);
             let good = Metadata::with_parameters(vec![layout]).good(batch.rng);
             batch.somewhere(&good);
             batch.rooms_near(&good);
@@ -220,9 +184,8 @@ fn parameter_counts(batch: &mut Batch<'_>) {
 
 /// Groups of the fewest bits: their count times six is exactly what is left.
 fn group_counts(batch: &mut Batch<'_>) {
-    let least = drafted(batch.rng, |d| d.put(0b01_0110, 6));
     for count in [1, 2, 14, 15, 100, 1_165] {
-        let good = Metadata::with_groups(vec![least.clone(); count]).good(batch.rng);
+        let good = Metadata::with_groups(vec![least_group(); count]).good(batch.rng);
         for missing in 0..8 {
             batch.cut_at(&good, good.bits.len() - missing);
         }
@@ -234,10 +197,7 @@ fn headphones(batch: &mut Batch<'_>) {
     for bytes in 1..=16 {
         let most = (8 * bytes - 8) / 3;
         for channels in [most.max(1), most + 1] {
-            let parameter = drafted(batch.rng, |d| {
-                d.esc(15, ESC);
-                write_headphones(d, bytes, channels);
-            });
+            let parameter = metadata::headphones(batch.rng, bytes, channels);
             let good = Metadata::with_parameters(vec![parameter]).good(batch.rng);
             batch.somewhere(&good);
             batch.cut_at(&good, good.bits.len() - 5);
@@ -249,11 +209,7 @@ fn headphones(batch: &mut Batch<'_>) {
 fn matrices(batch: &mut Batch<'_>) {
     for (order, channels) in [(0, 0), (15, 0), (0, 1), (1, 1), (3, 2), (15, 1)] {
         for float in [false, true] {
-            let matrix = drafted(batch.rng, |d| {
-                d.esc(22, ESC);
-                d.put(1, 2);
-                write_coefficients(d, order, channels, float);
-            });
+            let matrix = renderer::matrix(batch.rng, order, channels, float);
             let good = Metadata::with_renderer(batch.rng, &[matrix]).good(batch.rng);
             batch.every_offset(&good);
             batch.cut_at(&good, good.bits.len() - 5);
@@ -328,13 +284,6 @@ fn tables(batch: &mut Batch<'_>) {
     }
 }
 
-fn probabilities(batch: &mut Batch<'_>) {
-    for values in PROBABILITIES {
-        compressed(batch, 1, |d| probability_window(d, values));
-        compressed(batch, 2, |d| probability_window(d, values));
-    }
-}
-
 /// Around 16,384 fields: with parameters the limit is crossed field by field.
 fn field_limit(batch: &mut Batch<'_>) {
     for kinds in [&[][..], &[1], &[14], &[1, 1], &[1, 14]] {
@@ -350,7 +299,7 @@ fn field_limit(batch: &mut Batch<'_>) {
 }
 
 /// Tables that hold nearly 16,384 values, and parameters of the kinds.
-fn long_tables(rng: &mut Rng, kinds: &[u64]) -> Good {
+pub fn long_tables(rng: &mut Rng, kinds: &[u64]) -> Good {
     let widths = [12, 12, 12, 11, 10, 9, 8, 7, 6, 5];
     let parameters = kinds.iter().map(|&kind| metadata::parameter(rng, kind));
     let metadata = Metadata {

@@ -200,13 +200,34 @@ fn split(rng: &mut Rng, entries: usize) -> Vec<u32> {
 
 /// One table of binary32 values without a parameter, as in document 01's examples.
 pub fn probability_window(d: &mut Draft<'_>, values: &[u32]) {
+    value_window(d, BINARY32, values);
+    d.flag(false);
+}
+
+/// One table of these values at the precision; the flag of the parameter is still to come.
+pub fn value_window(d: &mut Draft<'_>, precision: u64, values: &[u32]) {
     d.esc(0, SMALL);
     d.esc(u64::from(values.len().ilog2()) - 1, WIDTH);
-    d.put(BINARY32 - 1, 5);
+    d.put(precision - 1, 5);
     for &value in values {
-        d.put(value.into(), 32);
+        d.put(value.into(), precision as usize);
     }
-    d.flag(false);
+}
+
+/// A table without values of its own to speak of, and this parameter.
+pub fn parameter_window(d: &mut Draft<'_>, parameter: u32) {
+    value_window(d, 1, &[0, 1]);
+    d.flag(true);
+    d.put(parameter.into(), 32);
+}
+
+/// A declared number of tables, and zeros up to so many bytes.
+pub fn zero_window(d: &mut Draft<'_>, tables: u64, bytes: usize) {
+    let count = drafted(d.rng, |d| d.esc(tables - 1, SMALL));
+    d.append(&count);
+    for _ in count.len()..8 * bytes {
+        d.flag(false);
+    }
 }
 
 /// One-bit values, all ones: a table of each symbol width, with no parameter.

@@ -17,6 +17,8 @@ const GREATEST: u64 = 15 + 127 + 1023;
 /// The global kinds with a meaning of their own; every other is a payload of bytes.
 pub const KINDS: u64 = 16;
 const HRTF: u64 = 7;
+const LAYOUT: u64 = 9;
+const HEADPHONES: u64 = 15;
 
 /// The parts of a metadata configuration, each drafted for itself.
 #[derive(Default)]
@@ -143,6 +145,38 @@ pub fn group(rng: &mut Rng) -> Bits {
     })
 }
 
+/// A group of the fewest bits.
+pub fn least_group() -> Bits {
+    let mut bits = Bits::default();
+    bits.put(0b01_0110, 6);
+    bits
+}
+
+/// A group of so many channels of the fewest bits, and nothing after them.
+pub fn channel_group(rng: &mut Rng, channels: u64) -> Bits {
+    drafted(rng, |d| {
+        d.any_esc(ESC);
+        d.put(0b00, 2);
+        d.esc(channels - 1, ESC);
+        d.flag(false);
+        for _ in 0..channels {
+            d.esc(7, ESC);
+        }
+    })
+}
+
+/// A group of the most channels, one after the other.
+pub fn contiguous_group(rng: &mut Rng) -> Bits {
+    drafted(rng, |d| {
+        d.any_esc(ESC);
+        d.put(0b00, 2);
+        d.esc(GREATEST, ESC);
+        d.flag(true);
+        d.any_esc(ESC);
+        d.flag(false);
+    })
+}
+
 fn write_members(d: &mut Draft<'_>) {
     if d.coin() {
         d.any_esc(ESC);
@@ -194,12 +228,17 @@ fn write_component_of(d: &mut Draft<'_>, kind: u64) {
     }
 }
 
-/// A global parameter: its kind and its fields.
-pub fn parameter(rng: &mut Rng, kind: u64) -> Bits {
+/// A parameter, global or of a renderer: its kind and what follows.
+pub fn of_kind(rng: &mut Rng, kind: u64, write: impl FnOnce(&mut Draft<'_>)) -> Bits {
     drafted(rng, |d| {
         d.esc(kind, ESC);
-        write_fields(d, kind);
+        write(d);
     })
+}
+
+/// A global parameter of the kind.
+pub fn parameter(rng: &mut Rng, kind: u64) -> Bits {
+    of_kind(rng, kind, |d| write_fields(d, kind))
 }
 
 fn write_fields(d: &mut Draft<'_>, kind: u64) {
@@ -211,7 +250,7 @@ fn write_fields(d: &mut Draft<'_>, kind: u64) {
         6 => write_items(d),
         HRTF => write_hrtf(d),
         8 => write_resource(d),
-        9 => {
+        LAYOUT => {
             let length = d.rng.pick(&[0, 0, 1, 2, 5, 12]);
             let speakers = d.rng.pick(&[0, 1, 2, 3]);
             write_layout(d, length, speakers);
@@ -232,7 +271,7 @@ fn write_fields(d: &mut Draft<'_>, kind: u64) {
         }
         13 => d.values(&[6]),
         14 => d.values(&[4, 8]),
-        15 => write_some_headphones(d),
+        HEADPHONES => write_some_headphones(d),
         _ => write_default_payload(d),
     }
 }
@@ -271,10 +310,7 @@ fn write_hrtf(d: &mut Draft<'_>) {
 
 /// A global parameter that declares an HRTF of the type.
 pub fn hrtf(rng: &mut Rng, kind: u64) -> Bits {
-    drafted(rng, |d| {
-        d.esc(HRTF, ESC);
-        write_hrtf_of(d, kind);
-    })
+    of_kind(rng, HRTF, |d| write_hrtf_of(d, kind))
 }
 
 fn write_hrtf_of(d: &mut Draft<'_>, kind: u64) {
@@ -298,8 +334,12 @@ pub fn write_resource(d: &mut Draft<'_>) {
     d.any_esc([1, 3, 8]);
 }
 
-/// A label of so many non-zero bytes, and speakers.
-pub fn write_layout(d: &mut Draft<'_>, length: usize, speakers: u64) {
+/// A global parameter with a label of so many non-zero bytes, and speakers.
+pub fn layout(rng: &mut Rng, length: usize, speakers: u64) -> Bits {
+    of_kind(rng, LAYOUT, |d| write_layout(d, length, speakers))
+}
+
+fn write_layout(d: &mut Draft<'_>, length: usize, speakers: u64) {
     write_resource(d);
     write_label(d, length);
     d.put(0, 8);
@@ -333,7 +373,12 @@ fn write_some_headphones(d: &mut Draft<'_>) {
     write_headphones(d, bytes, channels);
 }
 
-pub fn write_headphones(d: &mut Draft<'_>, bytes: u64, channels: u64) {
+/// A global parameter of so many headphone bytes and channels.
+pub fn headphones(rng: &mut Rng, bytes: u64, channels: u64) -> Bits {
+    of_kind(rng, HEADPHONES, |d| write_headphones(d, bytes, channels))
+}
+
+fn write_headphones(d: &mut Draft<'_>, bytes: u64, channels: u64) {
     d.put(bytes - 1, 4);
     d.put(channels - 1, 8);
     d.payload((8 * bytes as usize - 8).max(3 * channels as usize));

@@ -2,6 +2,7 @@
 mod batch;
 mod boundaries;
 mod compression;
+mod corners;
 mod draft;
 mod labels;
 mod limits;
@@ -17,6 +18,7 @@ mod tests;
 mod validation;
 mod variants;
 
+use crate::request::Request;
 use crate::rng::Rng;
 use batch::Batch;
 use metadata::Metadata;
@@ -30,9 +32,10 @@ const SMALL: usize = 60;
 type Part = fn(&mut Batch<'_>);
 
 /// Asked once.
-const FIXED: [Part; 7] = [
+const FIXED: [Part; 8] = [
     short::short,
     boundaries::boundaries,
+    corners::every_corner,
     validation::small,
     limits::limits,
     limits::full_buffers,
@@ -51,7 +54,7 @@ const RANDOM: [Part; 6] = [
 ];
 
 /// The sample that is stored in the repository.
-const SAMPLE: [Part; 2] = [sample::scripts, sample::readings];
+const SAMPLE: [Part; 3] = [sample::scripts, sample::readings, sample::metadata];
 
 pub fn generate(seed: u64, scale: u64, out: &mut impl Write) -> io::Result<()> {
     let mut rng = Rng::new(seed);
@@ -62,6 +65,29 @@ pub fn generate(seed: u64, scale: u64, out: &mut impl Write) -> io::Result<()> {
 /// The requests of the sample that is stored in the repository.
 pub fn sample(seed: u64, out: &mut impl Write) -> io::Result<()> {
     write_parts(&SAMPLE, &mut Rng::new(seed), out)
+}
+
+/// A corner of a metadata configuration: what it is, its number, and requests that must give it.
+pub struct Asked {
+    pub what: String,
+    pub number: u8,
+    pub requests: Vec<Request>,
+}
+
+/// Every corner of a metadata configuration.
+pub fn corners(seed: u64) -> Vec<Asked> {
+    let mut rng = Rng::new(seed);
+    let list = corners::corners(&mut rng);
+    let asked = |corner: corners::Corner| {
+        let mut batch = Batch::new(&mut rng);
+        batch.corner(&corner);
+        Asked {
+            what: corner.what,
+            number: corner.number,
+            requests: batch.requests,
+        }
+    };
+    list.into_iter().map(asked).collect()
 }
 
 fn write_parts(parts: &[Part], rng: &mut Rng, out: &mut impl Write) -> io::Result<()> {

@@ -1,6 +1,6 @@
 //! Drafts of renderer parameters.
-use super::draft::{Draft, drafted};
-use super::metadata::{ESC, write_default_payload, write_resource};
+use super::draft::Draft;
+use super::metadata::{of_kind, write_default_payload, write_resource};
 use super::positions::write_position;
 use crate::bits::Bits;
 use crate::request::Shape;
@@ -9,7 +9,8 @@ use crate::rng::Rng;
 /// The kinds with a meaning of their own; every other is a payload of bytes.
 pub const KINDS: u64 = 25;
 
-/// The kinds that have types within.
+/// The kinds that have counts or types within.
+const EXCLUSION: u64 = 7;
 const REVERB: u64 = 9;
 const RADIATION: u64 = 11;
 const MATRIX: u64 = 22;
@@ -17,40 +18,53 @@ const MATRIX: u64 = 22;
 /// The widths of the counts of bands and sizes.
 const COUNT: [usize; 3] = [3, 6, 9];
 
-/// A renderer parameter: its kind and its fields.
+/// A renderer parameter of the kind.
 pub fn parameter(rng: &mut Rng, kind: u64) -> Bits {
-    drafted(rng, |d| {
-        d.esc(kind, ESC);
-        write_fields(d, kind);
-    })
+    of_kind(rng, kind, |d| write_fields(d, kind))
 }
 
 /// One parameter for each type within the kinds that have types.
 pub fn one_of_each_type(rng: &mut Rng) -> Vec<Bits> {
     let mut list = Vec::new();
-    let mut add = |kind: u64, write: &dyn Fn(&mut Draft<'_>)| {
-        list.push(drafted(rng, |d| {
-            d.esc(kind, ESC);
-            write(d);
-        }))
-    };
     for kind in 0..8 {
-        add(REVERB, &|d| write_reverb_of(d, kind, 0));
-        add(REVERB, &|d| write_reverb_of(d, kind, 1));
-        add(RADIATION, &|d| write_radiation_of(d, kind));
+        list.push(reverb(rng, kind, 0));
+        list.push(reverb(rng, kind, 1));
+        list.push(radiation(rng, kind));
     }
     for precision in 0..4 {
         for pattern in [0, 1, 2, 3, 4, 31] {
-            add(RADIATION, &|d| {
+            list.push(of_kind(rng, RADIATION, |d| {
                 d.put(3, 3);
                 write_pattern_of(d, precision, pattern);
-            });
+            }));
         }
     }
-    for location in 0..4 {
-        add(MATRIX, &|d| write_matrix_at(d, location));
-    }
+    list.extend((0..4).map(|location| matrix_at(rng, location)));
+    list.extend([false, true].map(|cartesian| regions(rng, cartesian, &[true, false])));
     list
+}
+
+pub fn reverb(rng: &mut Rng, kind: u64, fallback: u64) -> Bits {
+    of_kind(rng, REVERB, |d| write_reverb_of(d, kind, fallback))
+}
+
+pub fn radiation(rng: &mut Rng, kind: u64) -> Bits {
+    of_kind(rng, RADIATION, |d| write_radiation_of(d, kind))
+}
+
+pub fn matrix_at(rng: &mut Rng, location: u64) -> Bits {
+    of_kind(rng, MATRIX, |d| write_matrix_at(d, location))
+}
+
+/// A radiation of one gain at the precision, and its angle.
+pub fn gain(rng: &mut Rng, precision: u64) -> Bits {
+    of_kind(rng, RADIATION, |d| {
+        d.put(3, 3);
+        d.put(precision, 2);
+        d.put(3, 5);
+        d.flag(false);
+        d.values(&[8 << precision, 9]);
+    })
 }
 
 fn write_fields(d: &mut Draft<'_>, kind: u64) {
@@ -65,7 +79,7 @@ fn write_fields(d: &mut Draft<'_>, kind: u64) {
         4 => write_if_present(d, 7),
         5 => d.values(&[8, 1, 8]),
         6 | 14 | 21 => d.values(&[1]),
-        7 => write_exclusion(d),
+        EXCLUSION => write_exclusion(d),
         8 | 15 => d.values(&[3]),
         REVERB => write_reverb_setting(d),
         10 => {
@@ -127,11 +141,18 @@ fn write_exclusion(d: &mut Draft<'_>) {
     if !d.maybe(80) || d.maybe(20) {
         return;
     }
-    let cartesian = d.coin();
-    let regions = d.rng.pick(&[0, 1, 2, 3, 15]);
-    d.put(regions, 4);
-    for _ in 0..regions {
-        if d.coin() {
+    let cartesian = d.rng.percent(50);
+    let count = d.rng.pick(&[0, 1, 2, 3, 15]);
+    let predefined: Vec<bool> = (0..count).map(|_| d.rng.percent(50)).collect();
+    write_regions(d, cartesian, &predefined);
+}
+
+/// Regions, each of them a predefined one or not.
+fn write_regions(d: &mut Draft<'_>, cartesian: bool, predefined: &[bool]) {
+    d.flag(cartesian);
+    d.put(predefined.len() as u64, 4);
+    for &predefined in predefined {
+        if d.flag(predefined) {
             d.any(4);
         } else if cartesian {
             d.values(&[8; 6]);
@@ -221,16 +242,36 @@ fn write_matrix_at(d: &mut Draft<'_>, location: u64) {
     }
 }
 
-/// A matrix in place; its layout has a random upper half.
-pub fn write_coefficients(d: &mut Draft<'_>, order: u64, channels: u64, float: bool) {
+/// A renderer parameter with a matrix in place.
+pub fn matrix(rng: &mut Rng, order: u64, channels: u64, float: bool) -> Bits {
+    of_kind(rng, MATRIX, |d| {
+        d.put(1, 2);
+        write_coefficients(d, order, channels, float);
+    })
+}
+
+/// The same without the matrix itself.
+pub fn matrix_head(rng: &mut Rng, order: u64, channels: u64, float: bool) -> Bits {
+    of_kind(rng, MATRIX, |d| {
+        d.put(1, 2);
+        write_matrix_head(d, order, channels, float);
+    })
+}
+
+fn write_coefficients(d: &mut Draft<'_>, order: u64, channels: u64, float: bool) {
+    write_matrix_head(d, order, channels, float);
+    let count = channels * (order + 1) * (order + 1);
+    d.payload(count as usize * if float { 32 } else { 16 });
+}
+
+/// What stands before a matrix; its layout has a random upper half.
+fn write_matrix_head(d: &mut Draft<'_>, order: u64, channels: u64, float: bool) {
     d.put(order, 4);
     d.any(16);
     d.put(channels, 16);
     if !d.flag(float) {
         d.any(32);
     }
-    let count = channels * (order + 1) * (order + 1);
-    d.payload(count as usize * if float { 32 } else { 16 });
 }
 
 fn write_radiation(d: &mut Draft<'_>) {
@@ -315,8 +356,7 @@ fn write_sizes(d: &mut Draft<'_>, sizes: &[u64]) {
 
 /// A radiation of so many bands of the fewest bits.
 pub fn bands(rng: &mut Rng, count: u64) -> Bits {
-    drafted(rng, |d| {
-        d.esc(RADIATION, ESC);
+    of_kind(rng, RADIATION, |d| {
         d.put(3, 3);
         d.put(0, 2);
         d.put(1, 5);
@@ -330,9 +370,16 @@ pub fn bands(rng: &mut Rng, count: u64) -> Bits {
 
 /// A radiation with coefficients of these sizes.
 pub fn sizes(rng: &mut Rng, sizes: &[u64]) -> Bits {
-    drafted(rng, |d| {
-        d.esc(RADIATION, ESC);
+    of_kind(rng, RADIATION, |d| {
         d.put(4, 3);
         write_sizes(d, sizes);
+    })
+}
+
+/// An exclusion of regions, each of them a predefined one or not.
+pub fn regions(rng: &mut Rng, cartesian: bool, predefined: &[bool]) -> Bits {
+    of_kind(rng, EXCLUSION, |d| {
+        d.put(0b10, 2);
+        write_regions(d, cartesian, predefined);
     })
 }

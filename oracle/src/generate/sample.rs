@@ -1,26 +1,35 @@
 //! The sample of requests that is stored in the repository.
 use super::batch::{Batch, Record};
 use super::boundaries::{examples, extended_graphs, extended_position, fullest, shapes};
+use super::corners::corners;
 use super::labels::few_labels;
 use super::limits::limits;
 use super::positions::{EXTENSIONS, alone, scene, scene_of, shapes_of, update, update_of};
 use super::scripts::some_script;
 use super::validation::{every_list, some_list};
 use super::variants::Good;
-use super::{of_fields, small};
+use super::{metadata, of_fields, one_of_each, small};
 use crate::driver::GREATEST_COUNT;
 use crate::record::record;
 use crate::request::Request;
 use crate::rng::Rng;
 use std::slice;
 
-/// About how large the records are: of scripts, of the drafts of each reading, of validations.
+/// About how large the records are: of scripts, of the drafts of each reading, of validations and
+/// of metadata.
 const SCRIPTS: usize = 390_000;
 const DRAFTS: usize = 180_000;
 const VALIDATIONS: usize = 80_000;
+const METADATA: usize = 600_000;
 
 /// Records of more bytes are mostly replaced by such without fields.
 const LONG: usize = 400;
+
+/// Corners of more fields are asked for without them.
+const FEW: usize = 160;
+
+/// The most bits of metadata that is asked for with every cut.
+const SHORT: usize = 160;
 
 type Drafted = fn(&mut Rng) -> Good;
 
@@ -56,6 +65,45 @@ pub fn readings(batch: &mut Batch<'_>) {
     fill(batch, from, VALIDATIONS, some_list);
 }
 
+/// Metadata: its corners, every kind of part, and drafts as long as they fit.
+pub fn metadata(batch: &mut Batch<'_>) {
+    let from = batch.requests.len();
+    few_corners(batch);
+    for _ in 0..2 {
+        for good in one_of_each(batch.rng) {
+            let lead = batch.rng.below(8) as usize;
+            batch.at(&good, lead, Record::Ample);
+            batch.cut_somewhere(&good);
+        }
+    }
+    few_fields(batch, short_metadata);
+    fill(batch, from, METADATA, |batch| {
+        around_one(batch, metadata::some)
+    });
+}
+
+/// Every corner at some of its offsets, once with its fields if they are few.
+fn few_corners(batch: &mut Batch<'_>) {
+    for corner in corners(batch.rng) {
+        let few = corner.good.fields().len() <= FEW;
+        let mut record = if few { Record::Ample } else { Record::Off };
+        for lead in corner.leads().into_iter().take(5) {
+            batch.at(&corner.good, lead, record);
+            record = Record::Off;
+        }
+    }
+}
+
+/// Metadata of few bits, so that most cuts leave more than a part of its first payload.
+fn short_metadata(rng: &mut Rng) -> Good {
+    loop {
+        let good = metadata::some(rng);
+        if good.bits.len() <= SHORT {
+            return good;
+        }
+    }
+}
+
 /// Asks on until the requests from that one on take so many bytes.
 fn fill(batch: &mut Batch<'_>, from: usize, bytes: usize, ask: impl Fn(&mut Batch<'_>)) {
     let mut size = stored_size(&batch.requests[from..]);
@@ -68,7 +116,7 @@ fn fill(batch: &mut Batch<'_>, from: usize, bytes: usize, ask: impl Fn(&mut Batc
 
 /// How many bytes the records of these requests take.
 fn stored_size(requests: &[Request]) -> usize {
-    let size = |request| record(request).expect("an answer").map_or(0, |r| r.len());
+    let size = |request| record(request).expect("an answer").len();
     requests.iter().map(size).sum()
 }
 

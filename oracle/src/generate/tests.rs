@@ -1,35 +1,29 @@
 //! Document 01's boundary list, and what holds of all that is generated.
-use super::compression::{code_window, exact, flat_window};
-use super::draft::{Draft, drafted};
-use super::metadata::{self, ESC, Metadata, write_headphones};
+use super::batch::{Batch, Input};
+use super::draft::drafted;
 use super::positions::{EXTENSIONS, write_largest};
-use super::renderer::{self, write_coefficients};
 use super::variants::Good;
-use super::{FIXED, RANDOM};
+use super::{FIXED, Part, RANDOM, metadata, renderer};
 use crate::answer::Answer;
 use crate::driver::answer;
-use crate::generate::batch::Batch;
+use crate::names;
 use crate::record::record;
 use crate::request::{Call, Question, Request, Shape};
 use crate::rng::Rng;
+use std::collections::BTreeSet;
 
 fn ask(good: &Good) -> Answer {
+    ask_at(good, Input::from(good.bits.bytes().as_slice()))
+}
+
+fn ask_at(good: &Good, input: Input) -> Answer {
     answer(&Request::Call(Call {
         question: good.question.clone(),
-        offset: 0,
+        offset: input.offset,
         recording: false,
         room: 0,
-        bytes: good.bits.bytes(),
+        bytes: input.bytes,
     }))
-}
-
-fn number(metadata: Metadata) -> u8 {
-    ask(&metadata.good(&mut Rng::new(1))).verdict.number
-}
-
-fn window(kind: u64, write: impl FnOnce(&mut Draft<'_>)) -> u8 {
-    let section = exact(&mut Rng::new(1), kind, write);
-    number(Metadata::with_compression(section))
 }
 
 #[test]
@@ -48,54 +42,58 @@ fn extensions() {
     assert_eq!(position(EXTENSIONS).count, 146);
 }
 
+/// Each corner gives its number, at the same place whatever its offset.
 #[test]
-fn parameters() {
-    let rng = &mut Rng::new(1);
-    let global = metadata::parameter(rng, 0);
-    let rendered = renderer::parameter(rng, 6);
-    let globals = |count| number(Metadata::with_parameters(vec![global.clone(); count]));
-    assert_eq!((globals(128), globals(129)), (0, 11));
-    let renderers = |count| {
-        let parameters = vec![rendered.clone(); count];
-        number(Metadata::with_renderer(&mut Rng::new(1), &parameters))
-    };
-    assert_eq!((renderers(128), renderers(129)), (0, 12));
+fn corners() {
+    for corner in super::corners(1) {
+        let mut ends = Vec::new();
+        for request in &corner.requests {
+            let answer = answer(request);
+            assert_eq!(answer.verdict.number, corner.number, "{}", corner.what);
+            ends.push((answer.verdict.position - offset(request), answer.count));
+        }
+        assert!(ends.iter().all(|end| *end == ends[0]), "{}", corner.what);
+    }
 }
 
-#[test]
-fn tables() {
-    let symbols = |width| window(1, |d| flat_window(d, &[width]));
-    assert_eq!((symbols(12), symbols(13)), (0, 20));
-    let codeword = |bits| window(3, |d| code_window(d, &[1], bits));
-    assert_eq!((codeword(64), codeword(65)), (0, 21));
+fn offset(request: &Request) -> u64 {
+    match request {
+        Request::Call(call) => call.offset,
+        Request::Validation { .. } => 0,
+    }
 }
 
-#[test]
-fn headphones() {
-    let channels = |count| {
-        let parameter = drafted(&mut Rng::new(1), |d| {
-            d.esc(15, ESC);
-            write_headphones(d, 16, count);
-        });
-        number(Metadata::with_parameters(vec![parameter]))
-    };
-    assert_eq!((channels(40), channels(41)), (0, 18));
-}
+/// The fields of corners where their count tells what was read: limits, payloads of 0 bits, and
+/// counts asked of a window.
+const COUNTS: [(&str, usize); 14] = [
+    ("16384 fields", 16_384),
+    ("16385 fields", 16_384),
+    ("31 extensions, global", 143 + 6),
+    ("a label of 4096 bytes, 0 speakers", 12),
+    ("a label of 4097 bytes, 0 speakers", 8),
+    ("16 headphone bytes with 40 channels", 8 + 40),
+    ("2 headphone bytes with 1 channels", 8 + 2),
+    ("a layout with low half 0, float true", 13),
+    ("a layout with low half 0, float false", 14),
+    ("type 3, 1 tables in 1 bytes", 5),
+    ("type 3, 2 tables in 1 bytes", 4),
+    ("type 3, 10 tables in 7 bytes", 4),
+    ("type 3, 4097 tables in 2600 bytes", 4),
+    ("type 4 without its last bit", 3),
+];
 
 #[test]
-fn layout_with_low_half_0() {
-    let rng = &mut Rng::new(1);
-    let matrix = drafted(rng, |d| {
-        d.esc(22, ESC);
-        d.put(1, 2);
-        write_coefficients(d, 15, 0, true);
-    });
-    let answer = ask(&Metadata::with_renderer(rng, &[matrix]).good(rng));
-    assert_eq!((answer.verdict.number, answer.count), (0, 13));
+fn fields_of_corners() {
+    let list = super::corners(1);
+    for (what, count) in COUNTS {
+        let corner = list.iter().find(|corner| corner.what == what).expect(what);
+        let mut answers = corner.requests.iter().map(answer);
+        assert!(answers.all(|answer| answer.count == count), "{what}");
+    }
 }
 
 /// The requests of one part.
-fn requests(part: super::Part) -> Vec<Request> {
+fn requests(part: Part) -> Vec<Request> {
     let rng = &mut Rng::new(1);
     let mut batch = Batch::new(rng);
     part(&mut batch);
@@ -123,23 +121,24 @@ fn sample() -> Vec<Request> {
 #[test]
 fn sample_is_bounded() {
     let requests = sample();
-    let size = |request| {
-        record(request)
-            .expect("an answer")
-            .expect("a kind with records")
-            .len()
-    };
-    assert!((5_000..=8_000).contains(&requests.len()));
-    assert!(requests.iter().map(size).sum::<usize>() <= 1_300_000);
+    let size = |request| record(request).expect("an answer").len();
+    assert!((8_000..=10_000).contains(&requests.len()));
+    assert!(requests.iter().map(size).sum::<usize>() <= 3 << 20);
 }
 
-/// The numbers that each kind can end in. 1 would take an input of 8 MiB, and 4 more fields than
-/// these readings have.
-const NUMBERS: [(&str, &[u8]); 4] = [
+/// The numbers that each kind can end in. 1 would take an input of 8 MiB.
+const NUMBERS: [(&str, &[u8]); 5] = [
     ("scene", &[0, 3, 5, 6, 7, 8, 9]),
     ("update", &[0, 2, 3, 5, 7, 8, 9]),
     ("position", &[0, 2, 3, 5, 7]),
     ("validation", &[0, 2, 8, 9]),
+    (
+        "metadata",
+        &[
+            0, 3, 4, 5, 6, 7, 10, 11, 12, 13, 14, 15, 16, 17, 18, 19, 20, 21, 22, 31, 32, 33, 34,
+            35,
+        ],
+    ),
 ];
 
 #[test]
@@ -154,6 +153,96 @@ fn sample_reaches_every_number() {
     }
     let widest = |answer: &Answer| answer.kind == "scene" && answer.shapes.len() == 63;
     assert!(answers.iter().any(widest));
+}
+
+/// The leaves that the Rust records in each block (docs/FIELDS.md), as first and last numbers.
+const TEMPLATES: [(u64, &[(u64, u64)]); 9] = [
+    (1, &[(1, 1)]),
+    (2, &[(2, 23)]),
+    (3, &[(24, 28)]),
+    (4, &[(29, 29), (35, 38), (44, 47)]),
+    (5, &[(39, 43)]),
+    (
+        6,
+        &[
+            (2, 5),
+            (7, 8),
+            (10, 11),
+            (13, 15),
+            (17, 22),
+            (29, 34),
+            (46, 73),
+        ],
+    ),
+    (7, &[(30, 31), (48, 48), (74, 83)]),
+    (8, &[(27, 27)]),
+    (
+        9,
+        &[
+            (1, 5),
+            (7, 8),
+            (10, 11),
+            (13, 15),
+            (17, 22),
+            (29, 34),
+            (47, 51),
+            (53, 53),
+            (60, 60),
+            (70, 71),
+            (74, 74),
+            (84, 115),
+        ],
+    ),
+];
+
+/// Block and leaf of every name word that they stand for.
+fn templates() -> BTreeSet<u64> {
+    let ranges = TEMPLATES.iter().flat_map(|&(block, leaves)| {
+        leaves
+            .iter()
+            .map(move |&(first, last)| (block, first..=last))
+    });
+    ranges
+        .flat_map(|(block, leaves)| leaves.map(move |leaf| leaf + (block << 8)))
+        .collect()
+}
+
+/// Block and leaf of every field that is listed in the answers.
+fn recorded_templates(requests: impl IntoIterator<Item = Request>) -> BTreeSet<u64> {
+    let requests = requests.into_iter();
+    let fields = requests.flat_map(|request| answer(&request).fields);
+    let named = fields.filter(|field| field.name.parse::<u64>().is_err());
+    named
+        .map(|field| names::word(&field.name).expect("a name with a word") & 0xfff)
+        .collect()
+}
+
+#[test]
+fn every_template_is_recorded() {
+    assert_eq!(templates().len(), 173);
+    let parts: [Part; 3] = [
+        super::scenes_and_updates,
+        super::each_kind,
+        super::configurations,
+    ];
+    let generated = parts.into_iter().flat_map(requests).step_by(7);
+    assert_eq!(recorded_templates(generated), templates());
+    assert_eq!(recorded_templates(sample()), templates());
+}
+
+/// The kinds of parameters that the sample's metadata reads, those without a meaning as one.
+#[test]
+fn sample_has_every_kind() {
+    let answers: Vec<Answer> = sample().iter().map(answer).collect();
+    let read = |block: u64, kinds: u64| -> BTreeSet<u64> {
+        let id = |name: &str| names::word(name).is_ok_and(|word| word & 0xfff == 48 + (block << 8));
+        let fields = answers.iter().flat_map(|answer| &answer.fields);
+        let ids = fields.filter(|field| id(&field.name));
+        ids.map(|field| field.value.min(kinds)).collect()
+    };
+    for (block, kinds) in [(6, metadata::KINDS), (9, renderer::KINDS)] {
+        assert!(read(block, kinds).into_iter().eq(0..=kinds));
+    }
 }
 
 /// Document 01's scenes, and the updates of its show against the shapes that each part left.

@@ -1,5 +1,6 @@
 use Prim.Native.Nat.{_≤_, _-_}
 use native.Mathlib.Omega.{arith}
+use native.Mathlib.Nat.{lt-of-lt-of-le}
 use borrow.Author.Needs.{needs}
 use Rattle.rules.specs.Derived.{labelBytes}
 use Rattle.rules.proofs.Left.{LeftByBytes, left-by-bytes-all}
@@ -25,7 +26,10 @@ add-t8 : tie.Need-add-t8 Inv-loop μ-loop
 add-t8 c = omega arith
 
 returns : tie.Need-returns Inv-loop μ-loop
-returns c = took-bits (search byte-last) (omega arith)
+returns c =
+    let at-read = c .before .before .before in
+    let at-test = at-read .before in
+    took-bits (byte-last _ (at-test .before .loop .inv .1) (lt-of-lt-of-le (at-test .loop-test .taken) (omega arith)) (at-read .read .ensures .met) (c .if1 .taken)) (omega arith)
 
 add-n : tie.Need-add-n Inv-loop μ-loop
 add-n c = omega arith
@@ -34,7 +38,11 @@ loop-less : tie.Need-loop-less Inv-loop μ-loop
 loop-less c = omega arith
 
 loop-again : tie.Need-loop-again Inv-loop μ-loop
-loop-again c = (omega arith, search byte-more)
+loop-again c =
+    let at-read = c .before .before .before in
+    let at-test = at-read .before in
+    let more = byte-more _ (at-test .before .loop .inv .1) (lt-of-lt-of-le (at-test .loop-test .taken) (omega arith)) (at-read .read .ensures .met) (c .if1 .left) in
+    (omega arith, more)
 
 invalid-requires : tie.Need-invalid-requires Inv-loop μ-loop
 invalid-requires c κs = c .before .loop .inv .1 .sound

@@ -15,8 +15,8 @@ ended-requires c κs = search needs
 returns-2 : tie.Need-returns-2
 returns-2 c = search steps
 
-mul-if3 : tie.Need-mul-if3
-mul-if3 c = search needs
+add-if3 : tie.Need-add-if3
+add-if3 c = search needs
 
 ended-requires-2 : tie.Need-ended-requires-2
 ended-requires-2 c κs = search needs
@@ -38,7 +38,7 @@ set-end-spec =
     returns
     ended-requires
     returns-2
-    mul-if3
+    add-if3
     ended-requires-2
     returns-3
     moved-requires

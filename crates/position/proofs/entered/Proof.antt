@@ -13,13 +13,10 @@ is-shaped-requires c κs = search needs
 entry-requires : tie.Need-entry-requires
 entry-requires c κs = search needs
 
-prefix-requires : tie.Need-prefix-requires
-prefix-requires c κs = search needs
-
 position-requires : tie.Need-position-requires
 position-requires c κs =
-    let at-if = c .before .before .before in
-    (search needs, (shaped-when _ (sym (at-if .before .is-shaped .ensures) ∙ at-if .if1 .taken), omega (arith, c .prefix .ensures)))
+    let at-if = c .before .before in
+    (search needs, (shaped-when _ (sym (at-if .before .is-shaped .ensures) ∙ at-if .if1 .taken), omega arith))
 
 same-length : tie.Need-same-length
 same-length c = search needs
@@ -27,11 +24,11 @@ same-length c = search needs
 returns : tie.Need-returns
 returns c =
     let at-call = c .before .before in
-    let at-entry = at-call .before .before .before in
+    let at-entry = at-call .before .before in
     let at-test = at-entry .before .before in
     let start = at-test .before .before .before in
     let own = question-kept (isShaped (start .args .shape)) 2 (at-test .is-shaped .ensures) (at-entry .before .if1 .taken) in
-    entry-kept _ _ _ _ 0 own (at-entry .entry .ensures) (rw (at-call .before .prefix .ensures) at (at-call .position .ensures .met))
+    entry-kept _ _ _ _ 0 own (at-entry .entry .ensures) (at-call .position .ensures .met)
 
 entry-requires-2 : tie.Need-entry-requires-2
 entry-requires-2 c κs = search needs
@@ -48,7 +45,6 @@ entered-spec =
     (tie.spec
     is-shaped-requires
     entry-requires
-    prefix-requires
     position-requires
     same-length
     returns

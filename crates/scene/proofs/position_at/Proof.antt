@@ -1,11 +1,14 @@
 use borrow.Author.Needs.{needs}
-use Rattle.rules.proofs.Laws.{if-true, if-false}
+use Rattle.rules.proofs.Laws.{readings}
 use Rattle.scene.specs.Positions.{positionAt}
 use Rattle.scene.proofs.position_at.Statement.{statement}
 use Rattle.scene.proofs.position_at.Tie as tie
 
-prefix-requires : tie.Need-prefix-requires
-prefix-requires c κs = search needs
+mul-p : tie.Need-mul-p
+mul-p c = search needs
+
+add-p : tie.Need-add-p
+add-p c = search needs
 
 position-requires : tie.Need-position-requires
 position-requires c κs = search needs
@@ -15,9 +18,7 @@ same-length c = search needs
 
 returns : tie.Need-returns
 unfolding positionAt
-returns c =
-    let at-call = c .before .before in
-    if-true _ _ (at-call .before .before .if1 .taken) (rw (at-call .before .before .before .prefix .ensures) at (at-call .position .ensures .met))
+returns c = search readings depth 14
 
 updated-position-requires : tie.Need-updated-position-requires
 updated-position-requires c κs = search needs
@@ -27,15 +28,14 @@ same-length-2 c = search needs
 
 returns-2 : tie.Need-returns-2
 unfolding positionAt
-returns-2 c =
-    let at-call = c .before .before in
-    if-false _ _ (at-call .before .before .if1 .left) (rw (at-call .before .before .before .prefix .ensures) at (at-call .updated-position .ensures))
+returns-2 c = search readings depth 14
 
 pub position-at-spec : {M : Type 1} → statement M
 position-at-spec =
     tie.close
     (tie.spec
-    prefix-requires
+    mul-p
+    add-p
     position-requires
     same-length
     returns

@@ -1,0 +1,2 @@
+pub mod Probability
+pub mod Compression

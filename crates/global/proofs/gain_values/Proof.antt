@@ -1,0 +1,52 @@
+use borrow.Author.Needs.{needs}
+use Rattle.rules.proofs.Laws.{readings}
+use Rattle.global.specs.Global.{gainValues}
+use Rattle.global.proofs.gain_values.Statement.{statement}
+use Rattle.global.proofs.gain_values.Tie as tie
+
+add-flag : tie.Need-add-flag
+add-flag c = search needs
+
+flag-requires : tie.Need-flag-requires
+flag-requires c κs = search needs
+
+slice-aggregate-values : tie.Need-slice-aggregate-values
+slice-aggregate-values c = search needs
+
+values-requires : tie.Need-values-requires
+values-requires c κs = search needs
+
+same-length : tie.Need-same-length
+same-length c = search needs
+
+returns : tie.Need-returns
+unfolding gainValues
+returns c = search readings depth 14
+
+slice-aggregate-values-2 : tie.Need-slice-aggregate-values-2
+slice-aggregate-values-2 c = search needs
+
+values-requires-2 : tie.Need-values-requires-2
+values-requires-2 c κs = search needs
+
+same-length-2 : tie.Need-same-length-2
+same-length-2 c = search needs
+
+returns-2 : tie.Need-returns-2
+unfolding gainValues
+returns-2 c = search readings depth 14
+
+pub gain-values-spec : {M : Type 1} → statement M
+gain-values-spec =
+    tie.close
+    (tie.spec
+    add-flag
+    flag-requires
+    slice-aggregate-values
+    values-requires
+    same-length
+    returns
+    slice-aggregate-values-2
+    values-requires-2
+    same-length-2
+    returns-2)

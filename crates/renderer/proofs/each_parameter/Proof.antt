@@ -1,0 +1,76 @@
+use Prim.Native.Nat.{_-_, _≤_}
+use mathlib.Core.Path.{_≡_, refl}
+use native.Mathlib.Omega.{arith}
+use native.Mathlib.Nat.{sub-zero}
+use borrow.Author.Needs.{needs}
+use lib.ListN.{length}
+use Rattle.rules.specs.Block.{dataParameters}
+use Rattle.rules.specs.Derived.{fold}
+use Rattle.rules.proofs.Left.{Left, left-all}
+use Rattle.rules.proofs.Fold.{fold-more, fold-none}
+use Rattle.renderer.specs.Renderer.{parameter, eachParameter}
+use Rattle.renderer.proofs.each_parameter.Statement.{statement}
+use Rattle.renderer.proofs.each_parameter.Tie as tie
+
+-- the parameters from `i` on are left to be read
+abbrev Inv-loop : tie.InvT-loop
+Inv-loop bytes words₀ g n t₀ i₀ words t i =
+    (i ≤ n) × (length words ≡ length words₀) × Left (eachParameter g n) bytes words₀ t₀ (fold (λ i _. parameter (dataParameters g i)) i (n - i) tt) t words
+
+abbrev μ-loop : tie.MeasureT-loop
+μ-loop bytes words₀ g n t₀ i₀ words t i = n - i
+
+loop-holds : tie.Need-loop-holds Inv-loop μ-loop
+unfolding eachParameter
+loop-holds c = (omega arith, refl, rw sub-zero (left-all (search needs)))
+
+mul-parameter : tie.Need-mul-parameter Inv-loop μ-loop
+mul-parameter c = search needs
+
+add-parameter : tie.Need-add-parameter Inv-loop μ-loop
+add-parameter c = search needs
+
+mul-parameter-2 : tie.Need-mul-parameter-2 Inv-loop μ-loop
+mul-parameter-2 c = search needs
+
+add-parameter-2 : tie.Need-add-parameter-2 Inv-loop μ-loop
+add-parameter-2 c = search needs
+
+parameter-requires : tie.Need-parameter-requires Inv-loop μ-loop
+parameter-requires c κs = search needs
+
+add-i : tie.Need-add-i Inv-loop μ-loop
+add-i c = search needs
+
+loop-less : tie.Need-loop-less Inv-loop μ-loop
+loop-less c = search needs
+
+loop-again : tie.Need-loop-again Inv-loop μ-loop
+loop-again c =
+    let at-call = c .before .before in
+    let at-test = at-call .before .before in
+    (omega arith, search needs, fold-more _ _ _ _ (at-test .before .loop .inv .2) (at-test .loop-test .taken) (at-call .parameter .ensures))
+
+same-length : tie.Need-same-length Inv-loop μ-loop
+same-length c = search needs
+
+returns : tie.Need-returns Inv-loop μ-loop
+returns c = fold-none _ _ _ _ (c .before .loop .inv .2) (c .loop-test .left)
+
+pub each-parameter-spec : {M : Type 1} → statement M
+each-parameter-spec =
+    tie.close
+    (tie.spec
+    Inv-loop
+    μ-loop
+    loop-holds
+    mul-parameter
+    add-parameter
+    mul-parameter-2
+    add-parameter-2
+    parameter-requires
+    add-i
+    loop-less
+    loop-again
+    same-length
+    returns)
