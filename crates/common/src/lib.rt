@@ -10,7 +10,7 @@ ghost use Rattle.rules.specs.Met.{Met, Sound};
 ghost use Rattle.fields.specs.Taken.{Narrow};
 ghost use Rattle.common.specs.Common.{number, numberIf, numberUnless, values, payload, defaultPosition, resourceParameters, metadataResource, reverbParameter, reverbParameters, metadataReverb};
 
-// A number, of which nothing depends.
+// A number on which nothing depends.
 pub fn number(bytes: &[u8], words: &mut [u64], s: State, name: u64, width: usize) -> State
     requires { ⌜ Sound s ⌝ }
     requires { ⌜ width ≤ 64 ⌝ }

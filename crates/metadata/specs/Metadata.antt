@@ -15,7 +15,7 @@ use Rattle.global.specs.Global.{metadataGlobalParameter}
 unfoldable pub metadataEsc : ℕ → Rule ℕ
 metadataEsc name = escaped name (4 ∷ 7 ∷ 10 ∷ [])
 
--- the same, of which nothing depends: `self.metadata_esc(name)?;`
+-- the same, where nothing depends on the number
 unfoldable pub metadataNumber : ℕ → Rule (Unit {0})
 metadataNumber name = do
   metadataEsc name

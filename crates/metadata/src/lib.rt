@@ -21,7 +21,7 @@ fn metadata_esc(bytes: &[u8], words: &mut [u64], s: State, name: u64) -> Taken
     fields::escaped(bytes, words, s, name, [4, 7, 10])
 }
 
-// The same, of which nothing depends.
+// The same, where nothing depends on the number.
 fn metadata_number(bytes: &[u8], words: &mut [u64], s: State, name: u64) -> State
     requires { ⌜ Sound s ⌝ }
     ensures { λ r. ⌜ Met (metadataNumber name) (now (bytes .entry)) (now (words .entry)) s tt r (now (words .exit)) ⌝ }
@@ -110,7 +110,7 @@ fn parameters(bytes: &[u8], words: &mut [u64], s: State) -> State
 {
     let n = metadata_esc(bytes, words, s, block::METADATA + leaf::PARAMETER_COUNT);
     let s1 = n.state;
-    if 128 < n.value {
+    if State::PARAMETERS < n.value {
         return fields::invalid(s1, 11);
     }
     each_parameter(bytes, words, s1, n.value)

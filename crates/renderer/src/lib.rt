@@ -467,7 +467,7 @@ pub fn renderer_data(bytes: &[u8], words: &mut [u64], s: State, g: u64) -> State
         [4, 7, 10],
     );
     let s1 = n.state;
-    if 128 < n.value {
+    if State::PARAMETERS < n.value {
         return fields::invalid(s1, 12);
     }
     each_parameter(bytes, words, s1, g, n.value)

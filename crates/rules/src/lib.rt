@@ -65,6 +65,9 @@ impl State {
     // The greatest count of things declared.
     pub const COUNT: u64 = 4096;
 
+    // The greatest number of parameters, of a whole configuration and of a group's data.
+    pub const PARAMETERS: u64 = 128;
+
     // The greatest number of bytes of a label, its zero byte included.
     pub const LABEL: u64 = 4097;
 
