@@ -107,7 +107,7 @@ predefined p = do
   there ← flag (p + leaf.predefined)
   pick there (predefinedIndex p) (resourceReference p)
 
--- kind 15: headphone channels, of which the padding ends as many bits after their count began as it was said before
+-- kind 15: headphone channels. Their declared bytes are counted from the count of channels on, and padding fills them.
 unfoldable pub channels : ℕ → ℕ → Rule (Unit {0})
 channels p n = repeat (λ i. number (p + leaf.channels + third * i) 3) n
 
