@@ -1,7 +1,8 @@
 #!/usr/bin/env bash
 # A bounded comparison with the Rust: the oracle is built and tested, the stored answers are made anew and held to the
 # stored ones, generated requests on the field layer are replayed by the program that rt has built, and generated requests
-# for a scene, an update, a position, a validation and metadata are asked of the static library and of the Rust.
+# for a scene, an update, a position, a validation, metadata and the text of a name word are asked of the static library and
+# of the oracle. Recorded fields are named by texts on both sides.
 set -euo pipefail
 cd "$(dirname "$0")/.."
 export CARGO_TARGET_DIR=$PWD/target/oracle PORT_LIBRARY_DIR=$PWD/target/staticlib
@@ -26,7 +27,7 @@ cargo test --quiet --release --offline --manifest-path oracle/Cargo.toml -p port
 # Seed by seed, so that one seed's requests and answers take the room of the other's.
 for seed in 2 3; do
   "$oracle" generate "$seed" 1 | grep -v '^fields ' >"$work/asked"
-  "$oracle" answer words <"$work/asked" >"$work/rust"
+  "$oracle" answer <"$work/asked" >"$work/rust"
   "$release/port" <"$work/asked" >"$work/port"
   "$oracle" table <"$work/rust" | grep -v '| 0 |$'
   "$oracle" compare "$work/rust" "$work/port"

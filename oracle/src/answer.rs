@@ -1,5 +1,4 @@
 //! Answers in the words of document 01, and the text lines that carry them.
-use crate::names;
 use crate::request::{Shape, shape_list};
 use crate::text::joined;
 use apac::numbers::{self, REFUSALS, STOPS};
@@ -42,10 +41,12 @@ pub struct Verdict {
 pub struct Answer {
     pub kind: &'static str,
     pub verdict: Verdict,
-    /// The fields counted. With recording off none of them is listed.
+    /// The fields counted, or the length of a name's text. With recording off no field is listed.
     pub count: usize,
     pub shapes: Vec<Shape>,
     pub fields: Vec<Field>,
+    /// The text of a name that was read.
+    pub text: Option<String>,
 }
 
 impl Verdict {
@@ -117,15 +118,17 @@ impl Answer {
             count: 0,
             shapes: given.to_vec(),
             fields: Vec::new(),
+            text: None,
         }
     }
 
-    /// The same answer, its fields named by their words.
-    pub fn in_words(mut self) -> Result<Self, String> {
-        for field in &mut self.fields {
-            field.name = names::word(&field.name)?.to_string();
+    /// An answer to a name word.
+    pub fn of_name(verdict: Verdict, length: usize, text: Option<String>) -> Self {
+        Self {
+            count: length,
+            text,
+            ..Self::bare("name", verdict, &[])
         }
-        Ok(self)
     }
 
     /// The number of positions that a scene declared.
@@ -173,10 +176,13 @@ impl fmt::Display for Answer {
         let Self { kind, count, .. } = self;
         let positions = self.positions();
         let shapes = shape_list(&self.shapes);
-        let fields = joined(self.fields.iter().map(Field::to_string), ";");
         write!(
             f,
-            "{kind} {outcome} {number} {position} {count} {positions} {shapes} {fields}"
-        )
+            "{kind} {outcome} {number} {position} {count} {positions} {shapes} "
+        )?;
+        match &self.text {
+            Some(text) => f.write_str(text),
+            None => f.write_str(&joined(self.fields.iter().map(Field::to_string), ";")),
+        }
     }
 }

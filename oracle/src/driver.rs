@@ -1,6 +1,7 @@
 //! Asks the Rust, and before it the questions that document 01 adds.
 use crate::answer::{Answer, Field, Outcome, Verdict};
 use crate::label;
+use crate::names;
 use crate::request::{Call, Question, Request, Shape};
 use apac::run::{End, Reading, Run};
 use std::panic::{AssertUnwindSafe, catch_unwind};
@@ -30,6 +31,7 @@ pub fn answer(request: &Request) -> Answer {
     match request {
         Request::Call(call) => answer_call(call),
         Request::Validation { at, shapes } => answer_validation(*at, shapes),
+        Request::Name { word, room } => answer_name(*word, *room as usize),
     }
 }
 
@@ -51,6 +53,19 @@ fn answer_validation(at: u64, shapes: &[Shape]) -> Answer {
         guarded(validated).unwrap_or_else(Verdict::without_number)
     };
     Answer::bare("validation", verdict, &[])
+}
+
+/// Questions 25 and 26. The Rust has no words, so the tables of docs/FIELDS.md answer.
+fn answer_name(word: u64, room: usize) -> Answer {
+    let refused = |number| Answer::of_name(Verdict::refused(number, 0), 0, None);
+    match names::text(word) {
+        None => refused(25),
+        Some(text) if room < text.len() => refused(26),
+        Some(text) => {
+            let read = Verdict::without_number(Outcome::Read);
+            Answer::of_name(read, text.len(), Some(text))
+        }
+    }
 }
 
 fn answer_call(call: &Call) -> Answer {
@@ -142,6 +157,7 @@ fn answer_run(call: &Call, run: Run) -> Answer {
             _ => call.question.shapes().to_vec(),
         },
         fields: if call.recording { fields } else { Vec::new() },
+        text: None,
         verdict,
     }
 }

@@ -1,5 +1,4 @@
 //! The program: its commands, each from standard input to standard output.
-use oracle::answer::Answer;
 use oracle::driver::{answer, confirm_default_shape};
 use oracle::program::{each_line, ended, told};
 use oracle::request::Request;
@@ -10,7 +9,7 @@ use std::io::{self, BufWriter, Write};
 use std::process::ExitCode;
 
 const USAGE: &str = "usage: oracle generate SEED SCALE > requests
-       oracle answer [words] < requests > answers
+       oracle answer < requests > answers
        oracle compare ANSWERS ANSWERS
        oracle table < answers
        oracle sample SEED > requests
@@ -37,11 +36,7 @@ fn run(words: &[&str]) -> Result<bool, String> {
             true
         }
         ["answer"] => {
-            each_line(|line| write_answer(answered(line)?, &mut out))?;
-            true
-        }
-        ["answer", "words"] => {
-            each_line(|line| write_answer(answered(line)?.in_words()?, &mut out))?;
+            each_line(|line| write_answer(line, &mut out))?;
             true
         }
         ["record"] => {
@@ -56,11 +51,8 @@ fn run(words: &[&str]) -> Result<bool, String> {
     Ok(good)
 }
 
-fn answered(line: &str) -> Result<Answer, String> {
-    Ok(answer(&Request::parse(line)?))
-}
-
-fn write_answer(answer: Answer, out: &mut impl Write) -> Result<(), String> {
+fn write_answer(line: &str, out: &mut impl Write) -> Result<(), String> {
+    let answer = answer(&Request::parse(line)?);
     writeln!(out, "{answer}").map_err(told)
 }
 

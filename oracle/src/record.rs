@@ -6,13 +6,14 @@ use crate::request::{Question, Request, Shape};
 use apac::run::{Action, Op};
 
 /// The kinds of requests; the first byte of a record is the place of its kind here.
-const KINDS: [&str; 6] = [
+const KINDS: [&str; 7] = [
     "fields",
     "scene",
     "update",
     "position",
     "validation",
     "metadata",
+    "name",
 ];
 
 /// The record of a request and its answer.
@@ -27,11 +28,13 @@ pub fn record(request: &Request) -> Result<Vec<u8>, String> {
     Ok(record)
 }
 
-/// Recording, room, offset, length of the input, and a number that each kind has of its own.
+/// Recording, room, offset, length of the input, and a number that each kind has of its own. In the
+/// place of the offset a validation has its position, and a name its word.
 fn put_arguments(record: &mut Vec<u8>, request: &Request) -> Result<(), String> {
     let (recording, room, offset, bytes) = match request {
         Request::Call(call) => (call.recording, call.room, call.offset, call.bytes.len()),
         Request::Validation { at, .. } => (false, 0, *at, 0),
+        Request::Name { word, room } => (false, *room, *word, 0),
     };
     record.push(recording.into());
     record.extend(room.to_be_bytes());
@@ -53,11 +56,11 @@ fn own_number(request: &Request) -> usize {
 fn question(request: &Request) -> Option<&Question> {
     match request {
         Request::Call(call) => Some(&call.question),
-        Request::Validation { .. } => None,
+        Request::Validation { .. } | Request::Name { .. } => None,
     }
 }
 
-/// The outcome with its number and position, and the count of fields.
+/// The outcome with its number and position, and the count of fields or the length of a text.
 fn put_end(record: &mut Vec<u8>, answer: &Answer) -> Result<(), String> {
     let verdict = &answer.verdict;
     record.push(outcome_code(&verdict.outcome)?);
@@ -91,7 +94,7 @@ fn put_given(record: &mut Vec<u8>, request: &Request) -> Result<(), String> {
     put_shapes(record, request.shapes())
 }
 
-/// The shapes after the call, a scene's with their number before them, and the fields.
+/// The shapes after the call, a scene's with their number before them, the fields, a name's text.
 fn put_result(record: &mut Vec<u8>, answer: &Answer) -> Result<(), String> {
     if answer.kind == "scene" {
         record.extend(fitting::<u16>(answer.shapes.len())?.to_be_bytes());
@@ -100,7 +103,9 @@ fn put_result(record: &mut Vec<u8>, answer: &Answer) -> Result<(), String> {
     answer
         .fields
         .iter()
-        .try_for_each(|field| put_field(record, field))
+        .try_for_each(|field| put_field(record, field))?;
+    record.extend(answer.text.iter().flat_map(|text| text.bytes()));
+    Ok(())
 }
 
 fn put_op(record: &mut Vec<u8>, op: &Op) {
@@ -207,6 +212,17 @@ mod tests {
     fn validations() {
         let head = "04_00_00000000_000000000000004d_00000000_0001_01_09_000000000000004d_00000000";
         check("validation 77 1:0:0:0:1:0", &[&plain(head), HUNG]);
+    }
+
+    #[test]
+    fn names() {
+        let head = "06_00_00000020_0000000000000101_00000000_0000_00_00_0000000000000000_0000001b";
+        let text = hex(b"ancillary.scene_graph.count");
+        check("name 257 32", &[&plain(head), &text]);
+        let head = "06_00_0000001a_0000000000000101_00000000_0000_01_1a_0000000000000000_00000000";
+        check("name 257 26", &[&plain(head)]);
+        let head = "06_00_00000000_ffffffffffffffff_00000000_0000_01_19_0000000000000000_00000000";
+        check(&format!("name {} 0", u64::MAX), &[&plain(head)]);
     }
 
     /// No more shapes than 63 are written, and their true number.

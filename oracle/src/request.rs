@@ -31,7 +31,15 @@ pub struct Call {
 #[derive(Clone, Debug, PartialEq)]
 pub enum Request {
     Call(Call),
-    Validation { at: u64, shapes: Vec<Shape> },
+    Validation {
+        at: u64,
+        shapes: Vec<Shape>,
+    },
+    /// The text of a name word, with the number of bytes that are lent for it.
+    Name {
+        word: u64,
+        room: u32,
+    },
 }
 
 impl Question {
@@ -60,6 +68,7 @@ impl Request {
         match self {
             Self::Call(call) => call.question.kind(),
             Self::Validation { .. } => "validation",
+            Self::Name { .. } => "name",
         }
     }
 
@@ -68,6 +77,7 @@ impl Request {
         match self {
             Self::Call(call) => call.question.shapes(),
             Self::Validation { shapes, .. } => shapes,
+            Self::Name { .. } => &[],
         }
     }
 
@@ -78,6 +88,10 @@ impl Request {
             "validation" => Self::Validation {
                 at: number(words.next()?)?,
                 shapes: parse_shapes(words.next()?)?,
+            },
+            "name" => Self::Name {
+                word: number(words.next()?)?,
+                room: number(words.next()?)?,
             },
             _ => Self::Call(Call::parse(kind, &mut words)?),
         };
@@ -118,6 +132,7 @@ impl fmt::Display for Request {
         match self {
             Self::Call(call) => call.fmt(f),
             Self::Validation { at, shapes } => write!(f, "validation {at} {}", shape_list(shapes)),
+            Self::Name { word, room } => write!(f, "name {word} {room}"),
         }
     }
 }

@@ -4,17 +4,18 @@ use apac::numbers::{REFUSALS, STOPS};
 use std::collections::BTreeMap;
 
 /// The kinds of requests, scripts last.
-const KINDS: [&str; 6] = [
+const KINDS: [&str; 7] = [
     "scene",
     "update",
     "position",
     "metadata",
     "validation",
+    "name",
     "fields",
 ];
 
-/// What the readings of each kind can end in, beside the questions that document 01 adds. Scripts
-/// don't count: they can be told to end in any number.
+/// What each kind can end in, beside questions 1, 2 and 5. Scripts don't count: they can be told to
+/// end in any number.
 const ENDS: [&[u8]; KINDS.len()] = [
     &[3, 6, 7, 8, 9],
     &[3, 7, 8, 9],
@@ -23,6 +24,7 @@ const ENDS: [&[u8]; KINDS.len()] = [
         3, 4, 6, 7, 10, 11, 12, 13, 14, 15, 16, 17, 18, 19, 20, 21, 22, 31, 32, 33, 34, 35,
     ],
     &[8, 9],
+    &[25, 26],
     &[],
 ];
 
@@ -30,7 +32,7 @@ const ENDS: [&[u8]; KINDS.len()] = [
 const ENOUGH: usize = 5;
 
 /// Read, and the questions that document 01 adds.
-const ADDED: [u8; 4] = [0, 1, 2, 5];
+const ADDED: [u8; 6] = [0, 1, 2, 5, 25, 26];
 
 #[derive(Default)]
 pub struct Table {
@@ -67,7 +69,7 @@ impl Table {
         lines.join("\n")
     }
 
-    /// The numbers that the readings of a kind that was asked reached too rarely.
+    /// The numbers that a kind that was asked reached too rarely.
     pub fn rare(&self) -> Vec<String> {
         let asked = self.sums();
         let kinds = (0..KINDS.len()).filter(|&kind| asked[kind] > 0);

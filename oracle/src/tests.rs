@@ -164,6 +164,15 @@ fn validation() {
 }
 
 #[test]
+fn names() {
+    let line = ask("name 257 27").to_string();
+    assert_eq!(line, "name read 0 0 27 0 - ancillary.scene_graph.count");
+    let line = ask("name 257 26").to_string();
+    assert_eq!(line, "name refused 26 0 0 0 - -");
+    assert_eq!(verdict("name 258 26"), "refused 25 0 0");
+}
+
+#[test]
 fn room_for_fields() {
     assert_eq!(verdict("scene 0 1 5 00"), "read 0 6 1");
     assert_eq!(verdict("scene 0 1 4 00"), "refused 5 6 0");

@@ -14,6 +14,9 @@ use Rattle.scene.specs.declared.SceneAnswer.{SceneAnswer}
 use Rattle.scene.specs.Scene.{SceneAnswered}
 use Rattle.update.specs.declared.UpdateAnswer.{UpdateAnswer}
 use Rattle.update.specs.Update.{UpdateAnswered}
+use Rattle.names.specs.declared.NameAnswer.{NameAnswer}
+use Rattle.names.specs.NameText.{NameAnswered}
+use Rattle.gateway.specs.declared.GatewayName.{GatewayName}
 use Rattle.gateway.specs.declared.GatewayAnswer.{GatewayAnswer}
 use Rattle.gateway.specs.declared.GatewayScene.{GatewayScene}
 use Rattle.gateway.specs.declared.GatewayUpdate.{GatewayUpdate}
@@ -52,3 +55,18 @@ pub record MetadataExported (x : Reading (Unit {0})) (rec : Bool) (ws : List ℕ
   pub answer : Answer
   pub answered : Answered x tt rec ws answer tt vs
   pub same : r ≡ exported answer
+
+-- and so for a name
+abbrev pub nameExported : NameAnswer → GatewayName
+nameExported a =
+    record {
+      outcome = outcomeCode (a .outcome);
+      number = outcomeNumber (a .outcome);
+      position = a .position;
+      length = a .length;
+    }
+
+pub record NameExported (w number : ℕ) (bytes : List ℕ) (r : GatewayName) (after : List ℕ) : Type 0 where
+  pub answer : NameAnswer
+  pub named : NameAnswered w number bytes answer after
+  pub same : r ≡ nameExported answer

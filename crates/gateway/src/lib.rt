@@ -1,17 +1,19 @@
 // What a gateway calls from C or Rust: the readings as exported functions over numbers, slices and plain structs. None asks
 // anything of its caller.
+use names::NameAnswer;
 use position::PositionSyntax;
 use rules::Answer;
 use rules::Outcome;
 ghost use mathlib.Core.Path.{_≡_};
-ghost use lib.ListN.{take};
-ghost use Rattle.rules.specs.Answer.{inputOf, answerOf};
+ghost use lib.ListN.{length, take};
+ghost use Rattle.rules.specs.Answer.{inputOf, answerOf, outcomeNumber};
 ghost use Rattle.position.specs.Entry.{positionReading};
 ghost use Rattle.validation.specs.Validation.{validationReading};
 ghost use Rattle.scene.specs.Scene.{sceneReading};
 ghost use Rattle.update.specs.Update.{updateReading};
 ghost use Rattle.metadata.specs.Entry.{metadataReading};
-ghost use Rattle.gateway.specs.Exported.{exported, SceneExported, UpdateExported, PositionExported, MetadataExported};
+ghost use Rattle.names.specs.NameText.{nameQuestion};
+ghost use Rattle.gateway.specs.Exported.{outcomeCode, exported, SceneExported, UpdateExported, PositionExported, MetadataExported, nameExported, NameExported};
 
 // An answer: the outcome is 0 if read, 1 if refused and 2 if stopped, and the number 0 if read.
 #[repr(C)]
@@ -47,32 +49,62 @@ pub struct GatewayPosition {
     pub shape: PositionSyntax,
 }
 
+// The answer to a name, its outcome and number as those of a reading.
+#[repr(C)]
+pub struct GatewayName {
+    pub outcome: u64,
+    pub number: u64,
+    pub position: usize,
+    pub length: usize,
+}
+
+// The outcome as a number, and document 01's number with it.
+fn outcome_code(outcome: Outcome) -> u64
+    ensures { λ r. ⌜ r ≡ outcomeCode outcome ⌝ }
+{
+    match outcome {
+        Outcome::Read => 0,
+        Outcome::Refused(_) => 1,
+        Outcome::Stopped(_) => 2,
+    }
+}
+
+fn outcome_number(outcome: Outcome) -> u64
+    ensures { λ r. ⌜ r ≡ outcomeNumber outcome ⌝ }
+{
+    match outcome {
+        Outcome::Read => 0,
+        Outcome::Refused(number) => number,
+        Outcome::Stopped(number) => number,
+    }
+}
+
 // An answer as it crosses.
 fn exported(a: Answer) -> GatewayAnswer
     ensures { λ r. ⌜ r ≡ exported a ⌝ }
 {
-    let position = a.position;
-    let fields = a.fields;
-    let outcome = a.outcome;
-    match outcome {
-        Outcome::Read => GatewayAnswer {
-            outcome: 0,
-            number: 0,
-            position,
-            fields,
-        },
-        Outcome::Refused(number) => GatewayAnswer {
-            outcome: 1,
-            number,
-            position,
-            fields,
-        },
-        Outcome::Stopped(number) => GatewayAnswer {
-            outcome: 2,
-            number,
-            position,
-            fields,
-        },
+    let told = a.outcome;
+    let outcome = outcome_code(told);
+    let number = outcome_number(told);
+    GatewayAnswer {
+        outcome,
+        number,
+        position: a.position,
+        fields: a.fields,
+    }
+}
+
+fn name_exported(a: NameAnswer) -> GatewayName
+    ensures { λ r. ⌜ r ≡ nameExported a ⌝ }
+{
+    let told = a.outcome;
+    let outcome = outcome_code(told);
+    let number = outcome_number(told);
+    GatewayName {
+        outcome,
+        number,
+        position: a.position,
+        length: a.length,
     }
 }
 
@@ -158,4 +190,13 @@ pub extern "C" fn gateway_validation(given: GatewayShapes, count: usize, at: usi
     let shapes = given.shapes;
     let a = validation::validate_graph(shapes, count, at);
     exported(a)
+}
+
+// `names::name_text`
+#[no_mangle]
+pub extern "C" fn gateway_name(word: u64, bytes: &mut [u8]) -> GatewayName
+    ensures { λ r. ⌜ NameExported word (nameQuestion word (length (now (bytes .entry)))) (now (bytes .entry)) r (now (bytes .exit)) ⌝ }
+{
+    let told = names::name_text(word, bytes);
+    name_exported(told)
 }

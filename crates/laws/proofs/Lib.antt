@@ -6,3 +6,4 @@ pub mod Front
 pub mod Back
 pub mod Tiles
 pub mod Names
+pub mod Named

@@ -1,6 +1,7 @@
 // Replays recorded answers of the Rust. Standard input holds records; each is run, and its answer, its shapes, its field
-// words and the words after them are held to what the Rust gave. `oracle/README.md` says how a record is laid out: a head
-// of 34 bytes, the input, what is handed in, the shapes after the call, and the words of the recorded fields.
+// words and the words after them are held to what the Rust gave, and so are a name's text and the bytes after it.
+// `oracle/README.md` says how a record is laid out: a head of 34 bytes, the input, what is handed in, the shapes after the
+// call, and the words of the recorded fields or the text.
 use libc::STDIN_FILENO;
 use libc::STDOUT_FILENO;
 use position::PositionSyntax;
@@ -394,7 +395,8 @@ fn run_metadata(head: &[u8; 34], bytes: &[u8], words: &mut [u64]) -> Ran {
     Ran { answer, same: true }
 }
 
-// A record of its kind: 0 operations, 1 scene, 2 update, 3 position, 4 validation, 5 metadata.
+// A record of its kind: 0 operations, 1 scene, 2 update, 3 position, 4 validation, 5 metadata. A name, 6, is lent bytes and
+// no words, and run by `one_name`.
 fn run_kind(head: &[u8; 34], bytes: &[u8], words: &mut [u64]) -> Ran {
     let kind = number(head, 0, 1);
     if kind == 1 {
@@ -436,6 +438,61 @@ fn run(head: &[u8; 34], bytes: &mut [u8], words: &mut [u64]) -> bool {
     agrees(head, answer) && r.same && got == bytes.len() && wrong == 0
 }
 
+// What the bytes hold before a name's text, and no text has.
+const BLANK: u8 = 0xA5;
+
+fn clear_bytes(bytes: &mut [u8]) {
+    for i in 0..bytes.len() {
+        bytes[i] = BLANK;
+    }
+}
+
+// Byte `i` as it should be: of a text of `n` bytes the next of the input, and those after it as they were.
+fn expected_byte(i: usize, n: usize) -> u8 {
+    if n <= i {
+        return BLANK;
+    }
+    let mut b = [0u8; 1];
+    io::read_full(STDIN_FILENO, &mut b);
+    b[0]
+}
+
+// The last byte that is not as it should be, counted from 1, or 0.
+fn wrong_bytes(bytes: &[u8], n: usize) -> usize {
+    let mut wrong: usize = 0;
+    for i in 0..bytes.len() {
+        if bytes[i] != expected_byte(i, n) {
+            wrong = i + 1;
+        }
+    }
+    wrong
+}
+
+// Whether a name, whose record has the word in the place of the offset and the length of the text in that of the fields,
+// is answered as recorded in the bytes that it is lent.
+fn run_name(head: &[u8; 34], bytes: &mut [u8]) -> bool {
+    clear_bytes(bytes);
+    let a = names::name_text(number(head, 6, 8), bytes);
+    let wrong = wrong_bytes(bytes, number(head, 30, 4) as usize);
+    let outcome = a.outcome;
+    let answer = Answer {
+        outcome,
+        position: a.position,
+        fields: a.length,
+    };
+    agrees(head, answer) && wrong == 0
+}
+
+// A name, if there are as many bytes as it is lent.
+fn one_name(tally: Tally, head: &[u8; 34], bytes: &mut [u8]) -> Tally {
+    let room = number(head, 2, 4) as usize;
+    if bytes.len() < room {
+        return tally.ended(false);
+    }
+    let right = run_name(head, &mut bytes[0..room]);
+    tally.counted(right)
+}
+
 // The greatest input and the most words of a record.
 fn input() -> [u8; 131072]
     ensures { λ r. ⌜ 131072 ≡ length r ⌝ }
@@ -458,7 +515,11 @@ fn one(tally: Tally, bytes: &mut [u8], words: &mut [u64]) -> Tally {
     if got < 34 {
         return tally.ended(got == 0);
     }
-    if 5 < number(&head, 0, 1) {
+    let kind = number(&head, 0, 1);
+    if kind == 6 {
+        return one_name(tally, &head, bytes);
+    }
+    if 6 < kind {
         return tally.ended(false);
     }
     if bytes.len() < size {

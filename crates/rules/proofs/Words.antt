@@ -20,7 +20,7 @@ unfolding encoded
 encoded-length [] = refl
 encoded-length (f ∷ fs) = omega (arith, encoded-length fs)
 
-sets-append : (ws : List ℕ) (i : ℕ) (xs ys : List ℕ) → sets ws i (xs ++ ys) ≡ sets (sets ws i xs) (i + length xs) ys
+pub sets-append : (ws : List ℕ) (i : ℕ) (xs ys : List ℕ) → sets ws i (xs ++ ys) ≡ sets (sets ws i xs) (i + length xs) ys
 sets-append ws i [] ys = rw add-zero
 sets-append ws i (x ∷ xs) ys =
     let e : suc i + length xs ≡ i + suc (length xs) = omega arith in

@@ -1,8 +1,12 @@
 //! Requests put to the library, and what it gives back, checked, as answers.
 use crate::buffer::Buffer;
 use crate::library::{Arguments, Reading, SHAPES, Shape, Shapes, gateway_validation};
-use oracle::answer::{Answer, Outcome, Verdict};
+use crate::names;
+use oracle::answer::{Answer, Field};
+use oracle::driver::FIELD_WORDS;
 use oracle::request::{self, Call, Question, Request};
+
+const FIELD_SIZE: usize = FIELD_WORDS as usize;
 
 pub fn answer(request: &Request) -> Result<Answer, String> {
     match request {
@@ -10,13 +14,11 @@ pub fn answer(request: &Request) -> Result<Answer, String> {
         Request::Validation { at, shapes } => {
             let reading = gateway_validation(handed(shapes), shapes.len(), *at as usize);
             Ok(Answer {
-                kind: request.kind(),
-                verdict: verdict(&reading)?,
                 count: reading.fields,
-                shapes: Vec::new(),
-                fields: Vec::new(),
+                ..Answer::bare(request.kind(), reading.verdict()?, &[])
             })
         }
+        Request::Name { word, room } => names::answer(*word, *room as usize),
     }
 }
 
@@ -24,12 +26,14 @@ fn answer_call(call: &Call) -> Result<Answer, String> {
     let mut buffer = Buffer::new(call.room as usize);
     let (reading, shapes) = asked(call, buffer.lent())?;
     let recorded = if call.recording { reading.fields } else { 0 };
+    let words = buffer.written(recorded.saturating_mul(FIELD_SIZE))?;
     Ok(Answer {
         kind: call.question.kind(),
-        verdict: verdict(&reading)?,
+        verdict: reading.verdict()?,
         count: reading.fields,
         shapes,
-        fields: buffer.fields(recorded)?,
+        fields: fields(words)?,
+        text: None,
     })
 }
 
@@ -62,19 +66,23 @@ fn asked(call: &Call, words: &mut [u64]) -> Result<(Reading, Vec<request::Shape>
     }
 }
 
-fn verdict(reading: &Reading) -> Result<Verdict, String> {
-    let number = reading.number;
-    Ok(Verdict {
-        outcome: match reading.outcome {
-            0 => Outcome::Read,
-            1 => Outcome::Refused,
-            2 => Outcome::Stopped,
-            other => return Err(format!("no outcome: {other}")),
-        },
-        number: number
+/// The recorded fields, each named by the text of its word.
+fn fields(words: &[u64]) -> Result<Vec<Field>, String> {
+    words.chunks_exact(FIELD_SIZE).map(field).collect()
+}
+
+fn field(words: &[u64]) -> Result<Field, String> {
+    let &[offset, length, kind, value, name] = words else {
+        return Err(format!("not the words of a field: {words:?}"));
+    };
+    Ok(Field {
+        offset,
+        length,
+        kind: kind
             .try_into()
-            .map_err(|_| format!("no number: {number}"))?,
-        position: reading.position as u64,
+            .map_err(|_| format!("no kind of value: {kind}"))?,
+        value,
+        name: names::text(name)?,
     })
 }
 
@@ -132,10 +140,10 @@ mod tests {
 
     /// The answer of the port, which must be that of the Rust.
     fn agreed(request: &Request) -> Answer {
-        let by_the_rust = driver::answer(request).in_words();
-        let by_the_port = answer(request);
+        let by_the_port = answer(request).expect("an answer");
+        let by_the_rust = driver::answer(request);
         assert_eq!(by_the_port, by_the_rust, "{:.200}", request.to_string());
-        by_the_port.expect("an answer")
+        by_the_port
     }
 
     /// Number, position and count of fields of a request line.
@@ -162,6 +170,19 @@ mod tests {
         assert_eq!(end("metadata 8 1 20 40"), (3, 8, 0));
         assert_eq!(end("metadata 9 1 20 40"), (3, 0, 0));
         assert_eq!(end("metadata 18446744073709551615 0 0 40"), (3, 0, 0));
+    }
+
+    #[test]
+    fn questions_of_names() {
+        assert_eq!(end("name 257 27"), (0, 0, 27));
+        assert_eq!(end("name 257 26"), (26, 0, 0));
+        assert_eq!(end("name 258 0"), (25, 0, 0));
+    }
+
+    #[test]
+    fn recorded_words_must_have_a_text() {
+        assert!(field(&[0, 6, 1, 0, 257]).is_ok());
+        assert!(field(&[0, 6, 1, 0, 258]).is_err());
     }
 
     #[test]

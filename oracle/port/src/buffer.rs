@@ -1,60 +1,55 @@
-//! The words that are lent to a reading. They hold a pattern, so that it shows which were written.
-use oracle::answer::Field;
-use oracle::driver::FIELD_WORDS;
+//! What is lent to the library. It holds a pattern, so that it shows which places were written.
 
-/// Words after those that are lent; a write beyond the room shows there.
+/// Places after those that are lent; a write beyond the room shows there.
 const BEYOND: usize = 8;
 
-pub struct Buffer {
-    words: Vec<u64>,
+pub trait Blank: PartialEq {
+    /// What a place holds before it is lent.
+    fn blank(i: usize) -> Self;
+}
+
+/// A word of recorded fields.
+impl Blank for u64 {
+    fn blank(i: usize) -> Self {
+        0xa5a5_a5a5_0000_0000 | i as u64
+    }
+}
+
+/// A byte of a text, but never of one in ASCII.
+impl Blank for u8 {
+    fn blank(i: usize) -> Self {
+        0x80 | (i % 128) as u8
+    }
+}
+
+pub struct Buffer<T> {
+    places: Vec<T>,
     room: usize,
 }
 
-impl Buffer {
+impl<T: Blank> Buffer<T> {
     pub fn new(room: usize) -> Self {
         Self {
-            words: (0..room + BEYOND).map(blank).collect(),
+            places: (0..room + BEYOND).map(T::blank).collect(),
             room,
         }
     }
 
-    pub fn lent(&mut self) -> &mut [u64] {
-        &mut self.words[..self.room]
+    pub fn lent(&mut self) -> &mut [T] {
+        &mut self.places[..self.room]
     }
 
-    /// So many fields, from the first word on. All words after them must be as they were.
-    pub fn fields(&self, count: usize) -> Result<Vec<Field>, String> {
-        let size = FIELD_WORDS as usize;
-        let (fields, room) = (self.words.chunks_exact(size), self.room / size);
-        if count > room {
-            return Err(format!("{count} fields in a room for {room}"));
+    /// The first so many places. All places after them must be as they were.
+    pub fn written(&self, count: usize) -> Result<&[T], String> {
+        if count > self.room {
+            return Err(format!("{count} places in a room for {}", self.room));
         }
-        let mut after = count * size..self.words.len();
-        match after.find(|&i| self.words[i] != blank(i)) {
-            Some(i) => Err(format!("word {i} was written, after {count} fields")),
-            None => fields.take(count).map(field).collect(),
+        let mut after = count..self.places.len();
+        match after.find(|&i| self.places[i] != T::blank(i)) {
+            Some(i) => Err(format!("place {i} was written, after {count}")),
+            None => Ok(&self.places[..count]),
         }
     }
-}
-
-/// What a word holds before a reading.
-fn blank(i: usize) -> u64 {
-    0xa5a5_a5a5_0000_0000 | i as u64
-}
-
-fn field(words: &[u64]) -> Result<Field, String> {
-    let &[offset, length, kind, value, name] = words else {
-        return Err(format!("not the words of a field: {words:?}"));
-    };
-    Ok(Field {
-        offset,
-        length,
-        kind: kind
-            .try_into()
-            .map_err(|_| format!("no kind of value: {kind}"))?,
-        value,
-        name: name.to_string(),
-    })
 }
 
 #[cfg(test)]
@@ -62,28 +57,27 @@ mod tests {
     use super::*;
 
     #[test]
-    fn written_words_become_fields() {
+    fn written_places_are_given_back() {
         let mut buffer = Buffer::new(7);
-        buffer.lent()[..5].copy_from_slice(&[3, 6, 1, 9, 257]);
-        let fields = buffer.fields(1).expect("one field");
-        assert_eq!(fields[0].to_string(), "3:6:1:9:257");
+        buffer.lent()[..5].copy_from_slice(b"count");
+        assert_eq!(buffer.written(5), Ok(b"count".as_slice()));
     }
 
     #[test]
-    fn words_after_the_fields_are_held_to_the_pattern() {
-        let mut buffer = Buffer::new(7);
-        assert!(buffer.fields(0).is_ok());
+    fn places_after_them_are_held_to_the_pattern() {
+        let mut buffer = Buffer::<u64>::new(7);
+        assert!(buffer.written(0).is_ok());
         buffer.lent()[6] = 0;
-        assert!(buffer.fields(0).is_err());
-        assert!(buffer.fields(1).is_err());
-        let mut buffer = Buffer::new(7);
-        buffer.words[7] = 0;
-        assert!(buffer.fields(0).is_err());
+        assert!(buffer.written(0).is_err());
+        assert!(buffer.written(6).is_err());
+        assert!(buffer.written(7).is_ok());
+        buffer.places[7] = 0;
+        assert!(buffer.written(7).is_err());
     }
 
     #[test]
-    fn fields_must_have_room() {
-        assert!(Buffer::new(9).fields(2).is_err());
-        assert!(Buffer::new(10).fields(2).is_err(), "a pattern is no kind");
+    fn written_places_must_have_room() {
+        assert!(Buffer::<u8>::new(9).written(9).is_ok());
+        assert!(Buffer::<u8>::new(9).written(10).is_err());
     }
 }

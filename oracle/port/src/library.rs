@@ -1,4 +1,5 @@
 //! The functions of the static library, and the structs that cross.
+use oracle::answer::{Outcome, Verdict};
 use oracle::request;
 
 /// How many shapes cross with a scene or an update.
@@ -41,6 +42,15 @@ pub struct UpdateReading {
 pub struct PositionReading {
     pub answer: Reading,
     pub shape: Shape,
+}
+
+#[repr(C)]
+pub struct Name {
+    /// As of a reading.
+    pub outcome: u64,
+    pub number: u64,
+    pub position: usize,
+    pub length: usize,
 }
 
 /// An array can't be handed over by value alone.
@@ -92,6 +102,13 @@ unsafe extern "C" {
     ) -> Reading;
 
     pub safe fn gateway_validation(shapes: Shapes, count: usize, at: usize) -> Reading;
+
+    fn gateway_name(word: u64, bytes: *mut u8, bytes_len: usize) -> Name;
+}
+
+/// The text of a word, written into bytes that are borrowed for the call.
+pub fn name(word: u64, bytes: &mut [u8]) -> Name {
+    unsafe { gateway_name(word, bytes.as_mut_ptr(), bytes.len()) }
 }
 
 /// What every reading is lent and told.
@@ -135,6 +152,33 @@ impl Arguments<'_> {
     pub fn position(self, shape: Shape, full: bool) -> PositionReading {
         call!(gateway_position, self, shape, full)
     }
+}
+
+impl Reading {
+    pub fn verdict(&self) -> Result<Verdict, String> {
+        verdict(self.outcome, self.number, self.position)
+    }
+}
+
+impl Name {
+    pub fn verdict(&self) -> Result<Verdict, String> {
+        verdict(self.outcome, self.number, self.position)
+    }
+}
+
+fn verdict(outcome: u64, number: u64, position: usize) -> Result<Verdict, String> {
+    Ok(Verdict {
+        outcome: match outcome {
+            0 => Outcome::Read,
+            1 => Outcome::Refused,
+            2 => Outcome::Stopped,
+            other => return Err(format!("no outcome: {other}")),
+        },
+        number: number
+            .try_into()
+            .map_err(|_| format!("no number: {number}"))?,
+        position: position as u64,
+    })
 }
 
 impl From<&request::Shape> for Shape {

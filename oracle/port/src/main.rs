@@ -1,7 +1,8 @@
-//! Answers requests as the oracle does, by asking the port. Fields are named by their words.
+//! Answers requests as the oracle does, by asking the port.
 mod ask;
 mod buffer;
 mod library;
+mod names;
 
 use oracle::program::{each_line, ended, told};
 use oracle::request::Request;

@@ -71,6 +71,10 @@ impl<'r> Batch<'r> {
         self.requests.push(Request::Validation { at, shapes });
     }
 
+    pub fn name(&mut self, word: u64, room: u32) {
+        self.requests.push(Request::Name { word, room });
+    }
+
     /// Mostly with all fields, else without.
     pub fn some_record(&mut self) -> Record {
         if self.rng.percent(60) {

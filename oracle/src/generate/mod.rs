@@ -17,6 +17,7 @@ mod short;
 mod tests;
 mod validation;
 mod variants;
+mod words;
 
 use crate::request::Request;
 use crate::rng::Rng;
@@ -32,7 +33,7 @@ const SMALL: usize = 60;
 type Part = fn(&mut Batch<'_>);
 
 /// Asked once.
-const FIXED: [Part; 8] = [
+const FIXED: [Part; 10] = [
     short::short,
     boundaries::boundaries,
     corners::every_corner,
@@ -41,20 +42,28 @@ const FIXED: [Part; 8] = [
     limits::full_buffers,
     limits::every_take,
     labels::labels,
+    words::every_template,
+    words::every_pair,
 ];
 
 /// Asked as often as the scale says, each time with other choices.
-const RANDOM: [Part; 6] = [
+const RANDOM: [Part; 7] = [
     noise::noise,
     scenes_and_updates,
     each_kind,
     configurations,
     validation::random,
     scripts::scripts,
+    words::random,
 ];
 
 /// The sample that is stored in the repository.
-const SAMPLE: [Part; 3] = [sample::scripts, sample::readings, sample::metadata];
+const SAMPLE: [Part; 4] = [
+    sample::scripts,
+    sample::readings,
+    sample::metadata,
+    words::few,
+];
 
 pub fn generate(seed: u64, scale: u64, out: &mut impl Write) -> io::Result<()> {
     let mut rng = Rng::new(seed);

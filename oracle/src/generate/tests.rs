@@ -3,7 +3,7 @@ use super::batch::{Batch, Input};
 use super::draft::drafted;
 use super::positions::{EXTENSIONS, write_largest};
 use super::variants::Good;
-use super::{FIXED, Part, RANDOM, metadata, renderer};
+use super::{FIXED, Part, RANDOM, metadata, renderer, words};
 use crate::answer::Answer;
 use crate::driver::answer;
 use crate::names;
@@ -59,7 +59,7 @@ fn corners() {
 fn offset(request: &Request) -> u64 {
     match request {
         Request::Call(call) => call.offset,
-        Request::Validation { .. } => 0,
+        Request::Validation { .. } | Request::Name { .. } => 0,
     }
 }
 
@@ -127,7 +127,7 @@ fn sample_is_bounded() {
 }
 
 /// The numbers that each kind can end in. 1 would take an input of 8 MiB.
-const NUMBERS: [(&str, &[u8]); 5] = [
+const NUMBERS: [(&str, &[u8]); 6] = [
     ("scene", &[0, 3, 5, 6, 7, 8, 9]),
     ("update", &[0, 2, 3, 5, 7, 8, 9]),
     ("position", &[0, 2, 3, 5, 7]),
@@ -139,6 +139,7 @@ const NUMBERS: [(&str, &[u8]); 5] = [
             35,
         ],
     ),
+    ("name", &[0, 25, 26]),
 ];
 
 #[test]
@@ -155,79 +156,58 @@ fn sample_reaches_every_number() {
     assert!(answers.iter().any(widest));
 }
 
-/// The leaves that the Rust records in each block (docs/FIELDS.md), as first and last numbers.
-const TEMPLATES: [(u64, &[(u64, u64)]); 9] = [
-    (1, &[(1, 1)]),
-    (2, &[(2, 23)]),
-    (3, &[(24, 28)]),
-    (4, &[(29, 29), (35, 38), (44, 47)]),
-    (5, &[(39, 43)]),
-    (
-        6,
-        &[
-            (2, 5),
-            (7, 8),
-            (10, 11),
-            (13, 15),
-            (17, 22),
-            (29, 34),
-            (46, 73),
-        ],
-    ),
-    (7, &[(30, 31), (48, 48), (74, 83)]),
-    (8, &[(27, 27)]),
-    (
-        9,
-        &[
-            (1, 5),
-            (7, 8),
-            (10, 11),
-            (13, 15),
-            (17, 22),
-            (29, 34),
-            (47, 51),
-            (53, 53),
-            (60, 60),
-            (70, 71),
-            (74, 74),
-            (84, 115),
-        ],
-    ),
-];
-
-/// Block and leaf of every name word that they stand for.
-fn templates() -> BTreeSet<u64> {
-    let ranges = TEMPLATES.iter().flat_map(|&(block, leaves)| {
-        leaves
-            .iter()
-            .map(move |&(first, last)| (block, first..=last))
-    });
-    ranges
-        .flat_map(|(block, leaves)| leaves.map(move |leaf| leaf + (block << 8)))
-        .collect()
+/// Block and leaf of every template.
+fn every_template() -> BTreeSet<u64> {
+    let templates = names::templates().iter();
+    templates.map(|template| template.number).collect()
 }
 
-/// Block and leaf of every field that is listed in the answers.
+/// Block and leaf of every field that is listed in the answers; its word must have its name as text.
 fn recorded_templates(requests: impl IntoIterator<Item = Request>) -> BTreeSet<u64> {
     let requests = requests.into_iter();
     let fields = requests.flat_map(|request| answer(&request).fields);
     let named = fields.filter(|field| field.name.parse::<u64>().is_err());
-    named
-        .map(|field| names::word(&field.name).expect("a name with a word") & 0xfff)
-        .collect()
+    let words = named.map(|field| {
+        let word = names::word(&field.name).expect("a name with a word");
+        assert_eq!(names::text(word), Some(field.name));
+        word
+    });
+    words.map(names::template_of).collect()
 }
 
 #[test]
 fn every_template_is_recorded() {
-    assert_eq!(templates().len(), 173);
     let parts: [Part; 3] = [
         super::scenes_and_updates,
         super::each_kind,
         super::configurations,
     ];
     let generated = parts.into_iter().flat_map(requests).step_by(7);
-    assert_eq!(recorded_templates(generated), templates());
-    assert_eq!(recorded_templates(sample()), templates());
+    assert_eq!(recorded_templates(generated), every_template());
+    assert_eq!(recorded_templates(sample()), every_template());
+}
+
+/// Block and leaf of every name word that is asked for and answered by this number.
+fn asked_templates(requests: &[Request], number: u8) -> BTreeSet<u64> {
+    let words = requests.iter().filter_map(|request| match request {
+        Request::Name { word, .. } if answer(request).verdict.number == number => Some(*word),
+        _ => None,
+    });
+    words.map(names::template_of).collect()
+}
+
+#[test]
+fn every_template_is_asked_for_its_text() {
+    let (generated, stored) = (requests(words::every_template), sample());
+    for (requests, numbers) in [(generated, [0, 25, 26].as_slice()), (stored, &[0, 26])] {
+        for &number in numbers {
+            let asked = asked_templates(&requests, number);
+            assert_eq!(asked, every_template(), "{number}");
+        }
+    }
+    let pairs = requests(words::every_pair);
+    assert_eq!(asked_templates(&pairs, 0), every_template());
+    assert!(asked_templates(&pairs, 25).is_disjoint(&every_template()));
 }
 
 /// The kinds of parameters that the sample's metadata reads, those without a meaning as one.
@@ -235,7 +215,9 @@ fn every_template_is_recorded() {
 fn sample_has_every_kind() {
     let answers: Vec<Answer> = sample().iter().map(answer).collect();
     let read = |block: u64, kinds: u64| -> BTreeSet<u64> {
-        let id = |name: &str| names::word(name).is_ok_and(|word| word & 0xfff == 48 + (block << 8));
+        let id = |name: &str| {
+            names::word(name).is_ok_and(|word| names::template_of(word) == 48 + (block << 8))
+        };
         let fields = answers.iter().flat_map(|answer| &answer.fields);
         let ids = fields.filter(|field| id(&field.name));
         ids.map(|field| field.value.min(kinds)).collect()

@@ -1,26 +1,19 @@
 use borrow.Author.Needs.{needs}
 use Rattle.gateway.proofs.exported.Statement.{statement}
 use Rattle.gateway.proofs.exported.Tie as tie
+use Rattle.gateway.proofs.exported.Reads as reads
+use Rattle.gateway.proofs.exported.Lts as lts
+use Rattle.gateway.proofs.outcome_code.Reads as outcome-code-reads
+use Rattle.gateway.proofs.outcome_number.Reads as outcome-number-reads
 
-enum-told : tie.Need-enum-told
-enum-told c = search needs
+outcome-code-requires : tie.Need-outcome-code-requires
+outcome-code-requires c κs = search needs
 
-enum-known-outcome : tie.Need-enum-known-outcome
-enum-known-outcome c = search needs
-
-enum-known-outcome-2 : tie.Need-enum-known-outcome-2
-enum-known-outcome-2 c = search needs
+outcome-number-requires : tie.Need-outcome-number-requires
+outcome-number-requires c κs = search needs
 
 returns : tie.Need-returns
-returns c = rw (c .enum-told .given .1)
-
-returns-2 : tie.Need-returns-2
-returns-2 c = rw (c .before .outcome .given .1)
-
-returns-3 : tie.Need-returns-3
-returns-3 c = rw (c .before .outcome2 .given .1)
+returns c = rw (c .before .outcome-code .ensures, c .outcome-number .ensures)
 
 pub exported-spec : {M : Type 1} → statement M
-exported-spec =
-    tie.close
-    (tie.spec enum-told enum-known-outcome enum-known-outcome-2 returns returns-2 returns-3)
+exported-spec = tie.close (tie.spec outcome-code-requires outcome-number-requires returns)

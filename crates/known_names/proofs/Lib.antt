@@ -1,0 +1,11 @@
+pub mod Words
+pub mod Position
+pub mod Scene
+pub mod Update
+pub mod Compression
+pub mod Common
+pub mod Radiation
+pub mod Renderer
+pub mod Global
+pub mod Metadata
+pub mod Refusal

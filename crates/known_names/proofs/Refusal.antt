@@ -1,0 +1,18 @@
+-- A word that is known is never refused as unknown, however many bytes are lent.
+use Prim.Native.Nat.{ℕ}
+use mathlib.Core.Path.{_≡_}
+use mathlib.Core.Bool.{Bool, true, false}
+use native.Mathlib.Omega.{arith}
+use lib.Dec.{leb}
+use lib.ListN.{length}
+use Rattle.rules.specs.Rule.{pick}
+use Rattle.names.specs.NameText.{nameText, roomQuestion, nameQuestion}
+use Rattle.known_names.specs.Known.{Known}
+
+not-25 : (b : Bool) → pick {A = ℕ} b 0 26 ≡ 25 → ⊥
+not-25 true e = omega arith
+not-25 false e = omega arith
+
+pub never-unknown : (w room : ℕ) → Known w → nameQuestion w room ≡ 25 → ⊥
+unfolding nameQuestion roomQuestion
+never-unknown w room k e = not-25 (leb (length (nameText w)) room) (rw (k .is-known) at e)

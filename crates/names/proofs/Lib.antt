@@ -1,0 +1,7 @@
+pub mod Rows
+pub mod Characters
+pub mod Lengths
+pub mod Questions
+pub mod Forms
+pub mod Distinct
+pub mod Examples
