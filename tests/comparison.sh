@@ -24,11 +24,16 @@ echo "$result"
 rt staticlib gateway
 cargo build --quiet --release --offline --manifest-path oracle/Cargo.toml -p port
 cargo test --quiet --release --offline --manifest-path oracle/Cargo.toml -p port
-# Seed by seed, so that one seed's requests and answers take the room of the other's.
-for seed in 2 3; do
-  "$oracle" generate "$seed" 1 | grep -v '^fields ' >"$work/asked"
+
+# Asks the library and the Rust what this command of the oracle writes. The files of one command take the room of the last's.
+compared() {
+  "$oracle" "$@" | grep -v '^fields ' >"$work/asked"
   "$oracle" answer <"$work/asked" >"$work/rust"
   "$release/port" <"$work/asked" >"$work/port"
   "$oracle" table <"$work/rust" | grep -v '| 0 |$'
   "$oracle" compare "$work/rust" "$work/port"
-done
+}
+compared generate 2 1
+compared generate 3 1
+# The fields of the stored answers, which are replayed by their words, are compared by the texts of their names too.
+compared sample 1

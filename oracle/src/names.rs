@@ -1,19 +1,24 @@
-//! Name words: 64-bit numbers for the texts by which the Rust names its fields. Their tables are
-//! read from docs/FIELDS.md, here called the paper.
+//! Name words: 64-bit numbers for the texts by which the Rust names its fields. How they are made,
+//! and their tables, is read from docs/FIELDS.md, here called the paper.
 use crate::text::number;
 use std::sync::LazyLock;
 
 const PAPER: &str = include_str!("../../docs/FIELDS.md");
 
-/// The lowest bits of the parts of a word; those of the leaf are the first.
-const BLOCK_BIT: u32 = 8;
-const INDEX_BITS: [u32; 4] = [12, 25, 38, 51];
-
 /// What the indices are called in the paper.
 const LETTERS: [char; 4] = ['i', 'j', 'k', 'm'];
 
-/// The greatest index that a word has room for.
-pub const GREATEST_INDEX: u64 = 8_191;
+/// A part of a word: its lowest bit, and the greatest value that it has room for.
+struct Part {
+    low: u32,
+    greatest: u64,
+}
+
+/// The parts of a word: the leaf, the block, and the four indices.
+static PARTS: LazyLock<[Part; 6]> = LazyLock::new(|| {
+    let parts: Vec<Part> = section("Words").filter_map(part).collect();
+    parts.try_into().ok().expect("a word has six parts")
+});
 
 /// A block and a leaf that stands in it.
 #[derive(Debug)]
@@ -62,13 +67,42 @@ pub fn text(word: u64) -> Option<String> {
     let template = templates()
         .iter()
         .find(|template| template.number == number)?;
-    let indices = INDEX_BITS.map(|bit| word >> bit & GREATEST_INDEX);
+    let indices = index_parts().each_ref().map(|part| part.of(word));
     template.has(indices).then(|| template.text(indices))
 }
 
 /// Block and leaf of a word.
 pub fn template_of(word: u64) -> u64 {
-    word % (1 << INDEX_BITS[0])
+    let [leaf, block, ..] = &*PARTS;
+    template_number(block.of(word), leaf.of(word))
+}
+
+fn template_number(block_number: u64, leaf_number: u64) -> u64 {
+    let [leaf, block, ..] = &*PARTS;
+    leaf.with(leaf_number) + block.with(block_number)
+}
+
+/// The greatest index that a word has room for.
+pub fn greatest_index() -> u64 {
+    let [.., last] = index_parts();
+    last.greatest
+}
+
+fn index_parts() -> &'static [Part; 4] {
+    let [_, _, indices @ ..] = &*PARTS;
+    indices
+}
+
+impl Part {
+    /// The value of this part of a word.
+    fn of(&self, word: u64) -> u64 {
+        word >> self.low & self.greatest
+    }
+
+    /// A word with this value and nothing else.
+    fn with(&self, value: u64) -> u64 {
+        value << self.low
+    }
 }
 
 impl Template {
@@ -76,7 +110,7 @@ impl Template {
         let text = format!("{}.{}", block.text, leaf.text);
         let ranges = [block.ranges, leaf.ranges].join(", ");
         Self {
-            number: leaf.number + (block.number << BLOCK_BIT),
+            number: template_number(block.number, leaf.number),
             form: LETTERS.iter().fold(text, |text, letter| {
                 text.replace(&format!("[{letter}]"), "[]")
             }),
@@ -86,8 +120,8 @@ impl Template {
 
     /// The word with these indices, in their range or not.
     pub fn word(&self, indices: [u64; 4]) -> u64 {
-        let parts = indices.into_iter().zip(INDEX_BITS);
-        self.number + parts.map(|(index, bit)| index << bit).sum::<u64>()
+        let parts = indices.into_iter().zip(index_parts());
+        self.number + parts.map(|(index, part)| part.with(index)).sum::<u64>()
     }
 
     /// Whether the indices are in their range.
@@ -136,17 +170,42 @@ struct Row {
     blocks: Vec<u64>,
 }
 
-/// The table in a section of the paper.
-fn table(section: &str) -> Vec<Row> {
-    let title = format!("## {section}");
-    let lines = PAPER.lines().skip_while(|line| *line != title).skip(1);
-    let lines = lines.take_while(|line| !line.starts_with("## "));
-    lines.filter_map(row).collect()
+/// The table of blocks or of leaves.
+fn table(title: &str) -> Vec<Row> {
+    section(title).filter_map(row).collect()
 }
 
-/// A line of a table that begins with a number.
+/// The lines of a section of the paper.
+fn section(title: &str) -> impl Iterator<Item = &'static str> {
+    let title = format!("## {title}");
+    let lines = PAPER.lines().skip_while(move |line| *line != title).skip(1);
+    lines.take_while(|line| !line.starts_with("## "))
+}
+
+/// The cells of a line of a table.
+fn cells(line: &'static str) -> Option<impl Iterator<Item = &'static str>> {
+    Some(line.strip_prefix('|')?.split('|').map(str::trim))
+}
+
+/// A line that begins with bits, as `0 to 7`.
+fn part(line: &'static str) -> Option<Part> {
+    let mut cells = cells(line)?;
+    let (low, _) = cells.next()?.split_once(" to ")?;
+    let (_, greatest) = cells.nth(1)?.split_once(" to ")?;
+    Some(Part {
+        low: low.parse().ok()?,
+        greatest: plain(greatest)?,
+    })
+}
+
+/// A number whose thousands may be parted by commas.
+fn plain(digits: &str) -> Option<u64> {
+    digits.replace(',', "").parse().ok()
+}
+
+/// A line that begins with a number.
 fn row(line: &'static str) -> Option<Row> {
-    let mut cells = line.strip_prefix('|')?.split('|').map(str::trim);
+    let mut cells = cells(line)?;
     Some(Row {
         number: cells.next()?.parse().ok()?,
         text: cells.next()?.trim_matches('`'),
@@ -156,16 +215,9 @@ fn row(line: &'static str) -> Option<Row> {
 }
 
 fn greatest(ranges: &str, letter: char) -> Option<u64> {
-    let range = |range: &str| {
-        Some(
-            range
-                .strip_prefix(letter)?
-                .strip_prefix(" to ")?
-                .replace(',', ""),
-        )
-    };
-    let digits = ranges.split(", ").find_map(range)?;
-    Some(digits.parse().expect("the greatest index in a table"))
+    let mut ranges = ranges.split(", ");
+    let digits = ranges.find_map(|range| range.strip_prefix(letter)?.strip_prefix(" to "))?;
+    Some(plain(digits).expect("the greatest index in a table"))
 }
 
 #[cfg(test)]
@@ -173,8 +225,25 @@ mod tests {
     use super::*;
     use std::collections::BTreeSet;
 
+    /// The parts stand one after the other, each with as many values as its bits have, and the
+    /// paper's sum is made of them.
+    #[test]
+    fn parts_are_read_from_the_paper() {
+        let ends = PARTS.iter().skip(1).map(|part| part.low);
+        for (part, end) in PARTS.iter().zip(ends.chain([u64::BITS])) {
+            assert_eq!(part.greatest + 1, 1 << (end - part.low));
+            let bits = format!("| {} to {} |", part.low, end - 1);
+            assert!(PAPER.contains(&bits), "{bits}");
+        }
+        let [_, block, i, j, k, m] = PARTS.each_ref().map(|part| part.low);
+        let block = 1 << block;
+        let sum = format!("leaf + {block} × block + 2^{i} × i + 2^{j} × j + 2^{k} × k + 2^{m} × m");
+        assert!(PAPER.contains(&sum), "{sum}");
+    }
+
     #[test]
     fn templates_are_read_from_the_paper() {
+        assert!(PAPER.contains("There are 173 templates."));
         assert_eq!(templates().len(), 173);
         let forms: BTreeSet<&str> = templates().iter().map(|t| t.form.as_str()).collect();
         assert_eq!(forms.len(), 173, "a text has one word");
@@ -187,7 +256,11 @@ mod tests {
             let ranges: Vec<u64> = template.greatest.into_iter().flatten().collect();
             assert_eq!(template.form.matches("[]").count(), ranges.len());
             assert_eq!(template.form.matches('[').count(), ranges.len());
-            assert!(ranges.into_iter().all(|g| (1..GREATEST_INDEX).contains(&g)));
+            assert!(
+                ranges
+                    .into_iter()
+                    .all(|g| (1..greatest_index()).contains(&g))
+            );
         }
     }
 

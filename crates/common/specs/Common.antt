@@ -27,9 +27,9 @@ numberUnless test name w = do
   there ← flag test
   pick there (done tt) (number name w)
 
--- `self.passive_values(p, widths)?;`
+-- `self.passive_values(p, widths)?;`, with the name of the first
 unfoldable pub values : ℕ → List ℕ → Rule (Unit {0})
-values p widths = passiveValues (p + leaf.encodedValues) third widths
+values name widths = passiveValues name third widths
 
 -- a payload of as many bytes as it says, the last arm of each `match`
 unfoldable pub payload : ℕ → Rule (Unit {0})

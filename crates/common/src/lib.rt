@@ -62,22 +62,15 @@ pub fn number_unless(
     number(bytes, words, s1, name, width)
 }
 
-// Numbers of these widths: `passive_values`.
-pub fn values(bytes: &[u8], words: &mut [u64], s: State, p: u64, widths: &[usize]) -> State
+// Numbers of these widths: `passive_values`, with the name of the first.
+pub fn values(bytes: &[u8], words: &mut [u64], s: State, name: u64, widths: &[usize]) -> State
     requires { ⌜ Sound s ⌝ }
-    requires { ⌜ p < 2 ^ 38 ⌝ }
+    requires { ⌜ name < 2 ^ 39 ⌝ }
     requires { ⌜ Narrow (now widths) ⌝ }
     requires { ⌜ length (now widths) ≤ 64 ⌝ }
-    ensures { λ r. ⌜ Met (values p (now (widths .entry))) (now (bytes .entry)) (now (words .entry)) s tt r (now (words .exit)) ⌝ }
+    ensures { λ r. ⌜ Met (values name (now (widths .entry))) (now (bytes .entry)) (now (words .entry)) s tt r (now (words .exit)) ⌝ }
 {
-    fields::passive_values(
-        bytes,
-        words,
-        s,
-        p + leaf::ENCODED_VALUES,
-        Field::THIRD,
-        widths,
-    )
+    fields::passive_values(bytes, words, s, name, Field::THIRD, widths)
 }
 
 // A payload of as many bytes as it says.

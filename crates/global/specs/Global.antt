@@ -12,7 +12,7 @@ use Rattle.common.specs.Common.{number, numberIf, numberUnless, values, payload
 unfoldable pub gainValues : ℕ → Rule (Unit {0})
 gainValues p = do
   cartesian ← flag (p + leaf.cartesian)
-  pick cartesian (values p (8 ∷ 8 ∷ 8 ∷ 7 ∷ [])) (values p (9 ∷ 8 ∷ 7 ∷ 8 ∷ []))
+  pick cartesian (values (p + leaf.globalValues) (8 ∷ 8 ∷ 8 ∷ 7 ∷ [])) (values (p + leaf.globalValues) (9 ∷ 8 ∷ 7 ∷ 8 ∷ []))
 
 unfoldable pub gain : ℕ → Rule (Unit {0})
 gain p = do
@@ -36,7 +36,7 @@ mask p = do
 
 unfoldable pub maskedItems : ℕ → Rule (Unit {0})
 maskedItems p = do
-  values p (2 ∷ 2 ∷ 3 ∷ [])
+  values (p + leaf.globalValues) (2 ∷ 2 ∷ 3 ∷ [])
   items p
   mask p
 
@@ -138,17 +138,17 @@ metadataGlobalParameter p kind =
     choose kind
     ((0 ∷ 1 ∷ 2 ∷ []) ⇒ number (p + leaf.encoded) 1
     ∷ (3 ∷ []) ⇒ number (p + leaf.encoded) 5
-    ∷ (4 ∷ []) ⇒ values p (3 ∷ 8 ∷ 8 ∷ 8 ∷ 3 ∷ 8 ∷ 8 ∷ 8 ∷ [])
+    ∷ (4 ∷ []) ⇒ values (p + leaf.globalValues) (3 ∷ 8 ∷ 8 ∷ 8 ∷ 3 ∷ 8 ∷ 8 ∷ 8 ∷ [])
     ∷ (5 ∷ []) ⇒ gain p
     ∷ (6 ∷ []) ⇒ maskedItems p
     ∷ (7 ∷ []) ⇒ hrtf p
     ∷ (8 ∷ []) ⇒ metadataResource p
     ∷ (9 ∷ []) ⇒ labelledLayout p
-    ∷ (10 ∷ []) ⇒ values p (3 ∷ 32 ∷ 32 ∷ 32 ∷ 1 ∷ [])
+    ∷ (10 ∷ []) ⇒ values (p + leaf.globalValues) (3 ∷ 32 ∷ 32 ∷ 32 ∷ 1 ∷ [])
     ∷ (11 ∷ []) ⇒ defaultPosition p
     ∷ (12 ∷ []) ⇒ predefined p
     ∷ (13 ∷ []) ⇒ number (p + leaf.encoded) 6
-    ∷ (14 ∷ []) ⇒ values p (4 ∷ 8 ∷ [])
+    ∷ (14 ∷ []) ⇒ values (p + leaf.globalValues) (4 ∷ 8 ∷ [])
     ∷ (15 ∷ []) ⇒ headphones p
     ∷ [])
     (payload p)

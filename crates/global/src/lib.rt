@@ -17,10 +17,10 @@ fn gain_values(bytes: &[u8], words: &mut [u64], s: State, p: u64) -> State
     let s1 = a.state;
     if a.value {
         let widths: [usize; 4] = [8, 8, 8, 7];
-        return common::values(bytes, words, s1, p, &widths);
+        return common::values(bytes, words, s1, p + leaf::GLOBAL_VALUES, &widths);
     }
     let widths: [usize; 4] = [9, 8, 7, 8];
-    common::values(bytes, words, s1, p, &widths)
+    common::values(bytes, words, s1, p + leaf::GLOBAL_VALUES, &widths)
 }
 
 // A gain, its range and four values.
@@ -98,7 +98,7 @@ fn masked_items(bytes: &[u8], words: &mut [u64], s: State, p: u64) -> State
     ensures { λ r. ⌜ Met (maskedItems p) (now (bytes .entry)) (now (words .entry)) s tt r (now (words .exit)) ⌝ }
 {
     let widths: [usize; 3] = [2, 2, 3];
-    let s1 = common::values(bytes, words, s, p, &widths);
+    let s1 = common::values(bytes, words, s, p + leaf::GLOBAL_VALUES, &widths);
     let s2 = items(bytes, words, s1, p);
     mask(bytes, words, s2, p)
 }
@@ -344,7 +344,7 @@ pub fn metadata_global_parameter(
         3 => common::number(bytes, words, s, p + leaf::ENCODED, 5),
         4 => {
             let widths: [usize; 8] = [3, 8, 8, 8, 3, 8, 8, 8];
-            common::values(bytes, words, s, p, &widths)
+            common::values(bytes, words, s, p + leaf::GLOBAL_VALUES, &widths)
         }
         5 => gain(bytes, words, s, p),
         6 => masked_items(bytes, words, s, p),
@@ -353,14 +353,14 @@ pub fn metadata_global_parameter(
         9 => labelled_layout(bytes, words, s, p),
         10 => {
             let widths: [usize; 5] = [3, 32, 32, 32, 1];
-            common::values(bytes, words, s, p, &widths)
+            common::values(bytes, words, s, p + leaf::GLOBAL_VALUES, &widths)
         }
         11 => common::default_position(bytes, words, s, p),
         12 => predefined(bytes, words, s, p),
         13 => common::number(bytes, words, s, p + leaf::ENCODED, 6),
         14 => {
             let widths: [usize; 2] = [4, 8];
-            common::values(bytes, words, s, p, &widths)
+            common::values(bytes, words, s, p + leaf::GLOBAL_VALUES, &widths)
         }
         15 => headphones(bytes, words, s, p),
         _ => common::payload(bytes, words, s, p),

@@ -4,7 +4,6 @@ use mathlib.Core.Path.{_≡_, refl}
 use mathlib.Core.List.{List, [], _∷_}
 use mathlib.Core.Bool.{true}
 use native.Mathlib.Omega.{arith}
-use borrow.Author.Tests.{leb-true}
 use lib.Dec.{leb}
 use lib.ListN.{length}
 use Rattle.rules.specs.Leaf as leaf
@@ -26,12 +25,12 @@ pub number-unless-known : (test name w : ℕ) → Known test → Known name → 
 unfolding numberUnless
 number-unless-known test name w t h = search (known-names, number-known)
 
-module _ (p : ℕ) (b : Begun (6 ∷ 9 ∷ []) 1 p) where
-  pub values-known : (widths : List ℕ) → leb (length widths) 32 ≡ true → KnownNames (values p widths)
-  unfolding values thirds
-  values-known widths h =
-      names-passive-values _ _ _ (λ k l. known-third {n = 32} p leaf.encodedValues k b (omega (arith, leb-true (length widths) 32 h)) refl)
+pub values-known : {bs : List ℕ} (p leaf : ℕ) (widths : List ℕ) → Begun bs 1 p → leb (length widths) (thirds bs leaf) ≡ true →
+    KnownNames (values (p + leaf) widths)
+unfolding values
+values-known p leaf widths b h = names-passive-values _ _ _ (λ k l. known-third p leaf k b l h)
 
+module _ (p : ℕ) (b : Begun (6 ∷ 9 ∷ []) 1 p) where
   pub payload-known : KnownNames (payload p)
   unfolding payload thirds
   payload-known = search known-names

@@ -9,3 +9,4 @@ pub mod Renderer
 pub mod Global
 pub mod Metadata
 pub mod Refusal
+pub mod Back

@@ -1,9 +1,14 @@
 -- Names that are known: the table has a row for the block and for the leaf, and the indices are in their range.
-use Prim.Native.Nat.{ℕ}
+use Prim.Native.Nat.{ℕ, _<_}
 use mathlib.Core.Path.{_≡_}
+use mathlib.Core.List.{List}
 use mathlib.Core.Bool.{true}
+use Rattle.rules.specs.declared.Answer.{Answer}
+use Rattle.rules.specs.declared.Field.{Field}
+use Rattle.rules.specs.declared.Found.the-variants as Found
 use Rattle.rules.specs.Rule.{Rule}
 use Rattle.rules.specs.Reading.{Reading}
+use Rattle.rules.specs.Words.{fieldAt}
 use Rattle.names.specs.NameText.{known}
 use Rattle.laws.specs.Named.{Names, Any, AllNamed}
 
@@ -17,3 +22,13 @@ KnownNames r = Names Known Any r
 -- of every field of a reading
 abbrev pub AllKnown : {A : Type 0} → Reading A → Type 0
 AllKnown x = AllNamed Known (x .fields)
+
+-- of the field that the words of a call hold in place `n`, read back as `Field::at` does
+pub record ReadBackKnown (words : List ℕ) (n : ℕ) : Type 0 where
+  pub field : Field
+  pub there : fieldAt words n ≡ Found.Field field
+  pub is-known : Known (field .name)
+
+-- of every field that a call has counted and recorded
+abbrev pub RecordedKnown : Answer → List ℕ → Type 0
+RecordedKnown answer words = (n : ℕ) → n < answer .fields → ReadBackKnown words n

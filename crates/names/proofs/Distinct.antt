@@ -1,7 +1,7 @@
 -- Two known words have different texts.
 use Prim.Native.Nat.{ℕ, zero, suc, _+_, _*_, _/_, _%_, _^_, _≤_, _<_}
 use Prim.Native.String.{String}
-use mathlib.Core.Path.{_≡_, refl, sym, ap, _∙_}
+use mathlib.Core.Path.{_≡_, refl, sym, ap, ap₂, _∙_}
 use mathlib.Core.List.{List, [], _∷_, _++_, append-assoc, append-nil}
 use mathlib.Core.Bool.{Bool, true, false, _&&_, _||_}
 use native.Mathlib.Omega.{arith}
@@ -42,14 +42,10 @@ beginsWith xs [] = true
 beginsWith [] (y ∷ ys) = false
 beginsWith (x ∷ xs) (y ∷ ys) = eqb x y && beginsWith xs ys
 
--- the leaf that has a text; and the block of a whole text, which is the last that the text begins with
-leafIn : List ℕ → ℕ
-unfolding leaves ascii
-leafIn text = lastRow (λ r. beginsWith (upToBlank r ++ (32 ∷ [])) (text ++ (32 ∷ []))) 0 0 leaves
-
-leaves-told : every (λ n r. eqb (leafIn (upToBlank r)) n) 0 leaves ≡ true
-unfolding leafIn leaves ascii
-leaves-told = refl
+-- the leaf of a block that has a text; and the block of a whole text, which is the last that the text begins with
+leafIn : ℕ → List ℕ → ℕ
+unfolding leaves ascii standsIn
+leafIn b text = lastRow (λ r. standsIn r b && beginsWith (upToBlank r ++ (32 ∷ [])) (text ++ (32 ∷ []))) 0 0 leaves
 
 whole : List ℕ → List ℕ → List ℕ
 whole block leaf = upToBlank block ++ (46 ∷ upToBlank leaf)
@@ -58,12 +54,13 @@ blockIn : List ℕ → ℕ
 unfolding blocks ascii
 blockIn text = lastRow (λ r. beginsWith text (upToBlank r ++ (46 ∷ []))) 0 0 blocks
 
-abbrev isTold : ℕ → List ℕ → List ℕ → Bool
-isTold b block leaf = pick (standsIn leaf b) (eqb (blockIn (whole block leaf)) b) true
+-- Both have their numbers back.
+abbrev isTold : ℕ → List ℕ → ℕ → List ℕ → Bool
+isTold b block l leaf = pick (standsIn leaf b) (eqb (blockIn (whole block leaf)) b && eqb (leafIn b (upToBlank leaf)) l) true
 
-blocks-told : every (λ b block. every (λ _. isTold b block) 0 leaves) 0 blocks ≡ true
-unfolding blockIn whole leaves blocks ascii standsIn
-blocks-told = refl
+all-told : every (λ b block. every (isTold b block) 0 leaves) 0 blocks ≡ true
+unfolding blockIn leafIn whole leaves blocks ascii standsIn
+all-told = refl
 
 -- A leaf stands in blocks 1 to 9 only, and the empty row in none.
 abbrev isBlock : List ℕ → Bool
@@ -89,19 +86,18 @@ no-block : (b : ℕ) → standsIn (ascii (getD leaves 0 "")) b ≡ false
 unfolding standsIn leaves ascii
 no-block b = rw (ne-eqb 32 (48 + b) (omega arith))
 
-leaf-number : (l b : ℕ) → standsIn (row leaves l) b ≡ true → l < 116
-unfolding leaves
-leaf-number l b s = go (leb 116 l) refl
+leaf-number : (l b : ℕ) → standsIn (row leaves l) b ≡ true → l < length leaves
+leaf-number l b s = go (leb (length leaves) l) refl
   where
-    go : (past : Bool) → leb 116 l ≡ past → l < 116
-    go true e = never s (rw (row-past leaves l (leb-true 116 l e)) (no-block b))
-    go false e = leb-false 116 l e
+    go : (past : Bool) → leb (length leaves) l ≡ past → l < length leaves
+    go true e = never s (rw (row-past leaves l (leb-true (length leaves) l e)) (no-block b))
+    go false e = leb-false (length leaves) l e
 
 -- The block and the leaf of a known word, had back from its text without the digits.
 record Template (w : ℕ) : Type 0 where
   form-is : form false (nameText w) ≡ whole (blockRow w) (leafRow w)
   block-is : blockIn (whole (blockRow w) (leafRow w)) ≡ blockOf w
-  leaf-is : leafIn (upToBlank (leafRow w)) ≡ leafOf w
+  leaf-is : leafIn (blockOf w) (upToBlank (leafRow w)) ≡ leafOf w
 
 sound : (table : List String) (n : ℕ) → every (λ _. isSound) 0 table ≡ true → 0 < length table → closed false (row table n) ≡ true
 sound table n t some = both (closed false (row table n)) (at-row isSound table n t some) .0
@@ -120,12 +116,13 @@ template w k =
     let stands = both (standsIn (leafRow w) (blockOf w)) k .0 in
     let l = leaf-number (leafOf w) (blockOf w) stands in
     let b = block-number (leafRow w) (blockOf w) (at-row isBlock leaves (leafOf w) leaves-blocks (omega arith)) stands in
-    let in-block = at-number (λ b block. every (λ _. isTold b block) 0 leaves) blocks (blockOf w) blocks-told b in
-    let told = at-number (λ _. isTold (blockOf w) (blockRow w)) leaves (leafOf w) in-block l in
+    let in-block = at-number (λ b block. every (isTold b block) 0 leaves) blocks (blockOf w) all-told b in
+    let told = rw stands at (at-number (isTold (blockOf w) (blockRow w)) leaves (leafOf w) in-block l) in
+    let numbers = both (eqb (blockIn (whole (blockRow w) (leafRow w))) (blockOf w)) told in
     record {
       form-is = name-form w;
-      block-is = eqb-true _ _ (rw stands at told);
-      leaf-is = eqb-true _ _ (at-number (λ n r. eqb (leafIn (upToBlank r)) n) leaves (leafOf w) leaves-told l);
+      block-is = eqb-true _ _ (numbers .0);
+      leaf-is = eqb-true _ _ (numbers .1);
     }
 
 -- Indices in the ranges of a row that its text tells, or that it has no place for.
@@ -191,7 +188,7 @@ distinct-names v w kv kw e =
     let forms = sym (template v kv .form-is) ∙ ap (form false) e ∙ template w kw .form-is in
     let block = sym (template v kv .block-is) ∙ ap blockIn forms ∙ template w kw .block-is in
     let leaf-text = ap (drop 1) (cancel (upToBlank (blockRow w)) _ _ (rw block at forms)) in
-    let leaf = sym (template v kv .leaf-is) ∙ ap leafIn leaf-text ∙ template w kw .leaf-is in
+    let leaf = sym (template v kv .leaf-is) ∙ ap₂ leafIn block leaf-text ∙ template w kw .leaf-is in
     let in-v = both (standsIn (leafRow v) (blockOf v)) kv .1 in
     let in-w = both (standsIn (leafRow w) (blockOf w)) kw .1 in
     let ranges-v = both (inRange (blockRow v) (firstOf v) (secondOf v)) in-v in

@@ -8,10 +8,11 @@ use borrow.Author.Tests.{leb-true}
 use lib.Dec.{eqb, leb}
 use lib.ListN.{length, length-append}
 use Rattle.rules.specs.Rule.{pick}
+use Rattle.rules.proofs.Laws.{both}
 use Rattle.text.specs.Text.{decimal}
 use Rattle.text.proofs.Decimal.{decimal-short}
-use Rattle.names.specs.Table.{blocks, leaves, ascii, row}
-use Rattle.names.specs.NameText.{character, indexed, blockText, leafText, nameText, blockRow, leafRow, blockOf, leafOf, firstOf, secondOf, thirdOf, fourthOf}
+use Rattle.names.specs.Table.{blocks, leaves, ascii, row, greatestFirst, greatestSecond, inRange, standsIn}
+use Rattle.names.specs.NameText.{known, character, indexed, blockText, leafText, nameText, blockRow, leafRow, blockOf, leafOf, firstOf, secondOf, thirdOf, fourthOf}
 use Rattle.names.proofs.Rows.{every, at-row}
 
 -- how long the text of a row can be, an index having at most four digits
@@ -67,3 +68,20 @@ name-short w h =
     let b = row-short blocks (blockOf w) (firstOf w) (secondOf w) blocks-short (omega arith) (omega arith) (omega arith) in
     let l = row-short leaves (leafOf w) (thirdOf w) (fourthOf w) leaves-short (omega arith) (omega arith) (omega arith) in
     rw (length-append (blockText w) (leafText w), length-append (indexed (blockRow w) (firstOf w) (secondOf w)) (46 ∷ [])) (omega arith)
+
+-- A word has room for every fourth index of the table, so a known word has at most 64 bits.
+abbrev isWithin : List ℕ → Bool
+isWithin r = leb (greatestSecond r) 8191
+
+leaves-within : every (λ _. isWithin) 0 leaves ≡ true
+unfolding leaves ascii
+leaves-within = refl
+
+pub known-small : (w : ℕ) → known w ≡ true → w < 2 ^ 64
+unfolding known inRange leaves
+known-small w k =
+    let ranges = both (standsIn (leafRow w) (blockOf w)) k .1 in
+    let of-leaf = both (inRange (blockRow w) (firstOf w) (secondOf w)) ranges .1 in
+    let fourth = leb-true (fourthOf w) (greatestSecond (leafRow w)) (both (leb (thirdOf w) (greatestFirst (leafRow w))) of-leaf .1) in
+    let within = leb-true (greatestSecond (leafRow w)) 8191 (at-row isWithin leaves (leafOf w) leaves-within (omega arith)) in
+    omega arith

@@ -4,13 +4,13 @@ use Prim.Native.String.{String}
 use mathlib.Core.Path.{_≡_, refl, ap, sym, _∙_}
 use mathlib.Core.List.{List, [], _∷_, _++_}
 use mathlib.Core.Bool.{Bool, true, false, _&&_}
-use mathlib.Core.Logic.{_⊎_, inl, inr}
 use native.Mathlib.Omega.{arith}
 use native.Mathlib.Nat.{add-zero}
 use borrow.Author.Tests.{eqb-true, leb-true, leb-false}
 use lib.Dec.{eqb, leb}
-use lib.ListN.{length, getD, take, drop, List·getD-eq-default}
+use lib.ListN.{length, length-append, getD, take, drop, List·getD-eq-default}
 use lib.Seq.{take-at, drop-at, drop-drop}
+use Rattle.rules.specs.Rule.{pick}
 use Rattle.rules.proofs.Laws.{both}
 use Rattle.names.specs.Table.{ascii, row, blocks, leaves}
 
@@ -66,12 +66,28 @@ cut i (s ∷ ss) (suc n) d t h =
     ∙ ap (take 59) (sym (drop-drop (59 * n) 59 (ascii s ++ rowBytes ss)) ∙ ap (drop (59 * n)) past)
     ∙ cut (suc i) ss n d (both (wide (ascii s)) t .1) (omega arith)
 
--- what a table gives for a number `m`: row `m`, or the empty one if it has none
-pub cut-row : (table : List String) (m n : ℕ) → every (λ _. wide) 0 table ≡ true → 0 < length table → ((m < length table) × (n ≡ m)) ⊎ ((length table ≤ m) × (n ≡ 0)) →
-    take 59 (drop (59 * n) (rowBytes table)) ≡ row table m
+bytes-long : (i : ℕ) (table : List String) → every (λ _. wide) i table ≡ true → length (rowBytes table) ≡ 59 * length table
+unfolding rowBytes
+bytes-long i [] t = refl
+bytes-long i (s ∷ ss) t =
+    let first = eqb-true (length (ascii s)) 59 (both (wide (ascii s)) t .0) in
+    let rest = bytes-long (suc i) ss (both (wide (ascii s)) t .1) in
+    rw (length-append (ascii s) (rowBytes ss)) (omega arith)
+
+-- what a table gives for a number: its row, or the empty one if there are too few bytes for it
+pub cut-row : (table : List String) (n : ℕ) → every (λ _. wide) 0 table ≡ true → 0 < length table →
+    take 59 (drop (pick (leb (59 * n + 59) (length (rowBytes table))) (59 * n) 0) (rowBytes table)) ≡ row table n
 unfolding row
-cut-row table m n t some (inl (h, e)) = rw e (cut 0 table m _ t h)
-cut-row table m n t some (inr (h, e)) = rw (e, row-past table m h) (cut 0 table 0 "" t some)
+cut-row table n t some = go (leb (59 * n + 59) (length (rowBytes table))) refl
+  where
+    long : length (rowBytes table) ≡ 59 * length table
+    long = bytes-long 0 table t
+
+    go : (b : Bool) → leb (59 * n + 59) (length (rowBytes table)) ≡ b → take 59 (drop (pick b (59 * n) 0) (rowBytes table)) ≡ ascii (getD table n (getD table 0 ""))
+    go true e = let z = leb-true (59 * n + 59) (length (rowBytes table)) e in cut 0 table n _ t (omega (arith, long))
+    go false e =
+        let z = leb-false (59 * n + 59) (length (rowBytes table)) e in
+        rw (row-past table n (omega (arith, long))) (cut 0 table 0 "" t some)
 
 pub blocks-wide : every (λ _. wide) 0 blocks ≡ true
 unfolding blocks ascii

@@ -76,7 +76,7 @@ leaves =
     ∷ "payload                                       0000 0000 469"
     ∷ "id                                            0000 0000 679"
     ∷ "encoded                                       0000 0000 69 "
-    ∷ "encoded[]                                     0031 0000 69 "
+    ∷ "encoded[]                                     0031 0000 9  "
     ∷ "gain_encoded                                  0000 0000 69 "
     ∷ "unit_range                                    0000 0000 6  "
     ∷ "cartesian                                     0000 0000 69 "
@@ -142,6 +142,7 @@ leaves =
     ∷ "unity                                         0000 0000 9  "
     ∷ "angle_encoded                                 0000 0000 9  "
     ∷ "sizes_minus_one[]                             0581 0000 9  "
+    ∷ "encoded[]                                     0007 0000 6  "
     ∷ []
 
 -- the ASCII codes of a text

@@ -2,8 +2,10 @@
 // has the text, in which `[]` is the place of an index and which ends at a blank; from 46 and from 51 on the greatest values of
 // its two indices, 0 where the text has no place for one; from 56 on the blocks that a leaf stands in.
 ghost use mathlib.Core.Path.{_≡_};
-ghost use Prim.Native.Nat.{_+_, _*_, _≤_};
+ghost use Prim.Native.Nat.{_+_, _*_, _≤_, _<_};
+ghost use lib.Dec.{leb};
 ghost use lib.ListN.{length, take, drop};
+ghost use Rattle.rules.specs.Rule.{pick};
 ghost use Rattle.names.specs.Table.{numberAt, inRange, standsIn};
 ghost use Rattle.names.specs.NameText.{blockRow, leafRow};
 
@@ -20,7 +22,7 @@ const BLOCKS: [u8; 590] = *b"\
     ancillary.metadata.groups[].data.parameters[] 1164 0127    \
 ";
 
-const LEAVES: [u8; 6844] = *b"\
+const LEAVES: [u8; 6903] = *b"\
     \x20                                                          \
     count                                         0000 0000 19 \
     parent_dynamic                                0000 0000 269\
@@ -71,7 +73,7 @@ const LEAVES: [u8; 6844] = *b"\
     payload                                       0000 0000 469\
     id                                            0000 0000 679\
     encoded                                       0000 0000 69 \
-    encoded[]                                     0031 0000 69 \
+    encoded[]                                     0031 0000 9  \
     gain_encoded                                  0000 0000 69 \
     unit_range                                    0000 0000 6  \
     cartesian                                     0000 0000 69 \
@@ -137,6 +139,7 @@ const LEAVES: [u8; 6844] = *b"\
     unity                                         0000 0000 9  \
     angle_encoded                                 0000 0000 9  \
     sizes_minus_one[]                             0581 0000 9  \
+    encoded[]                                     0007 0000 6  \
 ";
 
 // Row `n` of a table.
@@ -150,22 +153,30 @@ fn row(table: &[u8], n: usize) -> [u8; 59]
     row
 }
 
-// The row of a word's block, the empty one if there is none.
+// The row of a number, the empty one if the table has none.
+fn row_or_empty(table: &[u8], n: usize) -> [u8; 59]
+    requires { ⌜ 59 ≤ length (now table) ⌝ }
+    requires { ⌜ n < 256 ⌝ }
+    ensures { λ r. ⌜ r ≡ take 59 (drop (pick (leb (59 * n + 59) (length (now (table .entry)))) (59 * n) 0) (now (table .entry))) ⌝ }
+{
+    if 59 * n + 59 <= table.len() {
+        return row(table, n);
+    }
+    row(table, 0)
+}
+
+// The row of a word's block.
 pub fn block_row(word: u64) -> [u8; 59]
     ensures { λ r. ⌜ r ≡ blockRow word ⌝ }
 {
-    let block = (word / 256 % 16) as usize;
-    let n = if block < 10 { block } else { 0 };
-    row(&BLOCKS, n)
+    row_or_empty(&BLOCKS, (word / 256 % 16) as usize)
 }
 
 // The row of its leaf.
 pub fn leaf_row(word: u64) -> [u8; 59]
     ensures { λ r. ⌜ r ≡ leafRow word ⌝ }
 {
-    let leaf = (word % 256) as usize;
-    let n = if leaf < 116 { leaf } else { 0 };
-    row(&LEAVES, n)
+    row_or_empty(&LEAVES, (word % 256) as usize)
 }
 
 // The four digits in the columns from `k` on; a blank counts as 0.

@@ -17,7 +17,7 @@ use Rattle.radiation.specs.Radiation.{rendererRadiation}
 unfoldable pub legacySpread : ℕ → Rule (Unit {0})
 legacySpread q = do
   height ← flag (q + leaf.heightPresent)
-  values q (9 ∷ 8 ∷ [])
+  values (q + leaf.rendererValues) (9 ∷ 8 ∷ [])
   pick height (number (q + leaf.heightEncoded) 6) (done tt)
 
 -- and without: the width, and two or three numbers of it
@@ -31,7 +31,7 @@ unfoldable pub spreadValues : ℕ → ℕ → Rule (Unit {0})
 spreadValues q width = do
   three ← flag (q + leaf.thirdDimension)
   take (q + leaf.rangeEncoded) 4
-  pick three (values q (width ∷ width ∷ width ∷ [])) (values q (width ∷ width ∷ []))
+  pick three (values (q + leaf.rendererValues) (width ∷ width ∷ width ∷ [])) (values (q + leaf.rendererValues) (width ∷ width ∷ []))
 
 unfoldable pub spread : ℕ → Rule (Unit {0})
 spread q = do
@@ -91,7 +91,7 @@ unfoldable pub roomGeometry : ℕ → Rule (Unit {0})
 roomGeometry q = do
   metadataResource (q + leaf.resource)
   fallback ← take (q + leaf.fallbackType) 3
-  pick (eqb fallback 0) (values q (replicate 32 32)) (stop 31)
+  pick (eqb fallback 0) (values (q + leaf.rendererValues) (replicate 32 32)) (stop 31)
 
 unfoldable pub sceneReverb : ℕ → Rule (Unit {0})
 sceneReverb q = do
@@ -124,7 +124,7 @@ singleRegion q = do
       (number (q + leaf.index) 4)
       (do
         cartesian ← flag (q + leaf.cartesian)
-        pick cartesian (values q (8 ∷ 8 ∷ 8 ∷ 8 ∷ 8 ∷ 8 ∷ [])) (values q (9 ∷ 9 ∷ 8 ∷ 8 ∷ 8 ∷ 8 ∷ [])))
+        pick cartesian (values (q + leaf.rendererValues) (8 ∷ 8 ∷ 8 ∷ 8 ∷ 8 ∷ 8 ∷ [])) (values (q + leaf.rendererValues) (9 ∷ 9 ∷ 8 ∷ 8 ∷ 8 ∷ 8 ∷ [])))
 
 unfoldable pub singleRegionIfPresent : ℕ → Rule (Unit {0})
 singleRegionIfPresent q = do
@@ -185,7 +185,7 @@ rendererParameter q kind =
     ∷ (2 ∷ []) ⇒ number (q + leaf.encoded) 7
     ∷ (3 ∷ []) ⇒ number (q + leaf.encoded) 8
     ∷ (4 ∷ []) ⇒ numberIf (q + leaf.present) (q + leaf.encoded) 7
-    ∷ (5 ∷ []) ⇒ values q (8 ∷ 1 ∷ 8 ∷ [])
+    ∷ (5 ∷ []) ⇒ values (q + leaf.rendererValues) (8 ∷ 1 ∷ 8 ∷ [])
     ∷ (6 ∷ 14 ∷ 21 ∷ []) ⇒ encodedFlag q
     ∷ (7 ∷ []) ⇒ regionsUnlessAll q
     ∷ (8 ∷ 15 ∷ []) ⇒ number (q + leaf.encoded) 3
@@ -193,7 +193,7 @@ rendererParameter q kind =
     ∷ (10 ∷ []) ⇒ encodedIfOne q
     ∷ (11 ∷ []) ⇒ rendererRadiation q
     ∷ (12 ∷ []) ⇒ flagAndEncoded q
-    ∷ (13 ∷ []) ⇒ values q (1 ∷ 1 ∷ 3 ∷ [])
+    ∷ (13 ∷ []) ⇒ values (q + leaf.rendererValues) (1 ∷ 1 ∷ 3 ∷ [])
     ∷ (16 ∷ []) ⇒ number (q + leaf.encoded) 9
     ∷ (17 ∷ []) ⇒ singleRegionIfPresent q
     ∷ (19 ∷ []) ⇒ orderAndEncoded q

@@ -4,7 +4,8 @@ use rules::Field;
 use rules::State;
 use rules::block;
 use rules::leaf;
-ghost use Prim.Native.Nat.{_%_, _≤_, _<_, _^_};
+ghost use Prim.Native.Nat.{_+_, _%_, _≤_, _<_, _^_};
+ghost use Rattle.rules.specs.Leaf.{rendererValues};
 ghost use Rattle.rules.specs.Met.{Met, Sound};
 ghost use Rattle.fields.specs.Taken.{Took, Narrow};
 ghost use Rattle.common.specs.Common.{values};
@@ -15,9 +16,9 @@ fn three_values(bytes: &[u8], words: &mut [u64], s: State, q: u64, widths: [usiz
     requires { ⌜ Sound s ⌝ }
     requires { ⌜ q < 2 ^ 38 ⌝ }
     requires { ⌜ Narrow widths ⌝ }
-    ensures { λ r. ⌜ Met (values q widths) (now (bytes .entry)) (now (words .entry)) s tt r (now (words .exit)) ⌝ }
+    ensures { λ r. ⌜ Met (values (q + rendererValues) widths) (now (bytes .entry)) (now (words .entry)) s tt r (now (words .exit)) ⌝ }
 {
-    common::values(bytes, words, s, q, &widths)
+    common::values(bytes, words, s, q + leaf::RENDERER_VALUES, &widths)
 }
 
 // Kind 1, with `legacy_spread`.
@@ -29,7 +30,7 @@ fn legacy_spread(bytes: &[u8], words: &mut [u64], s: State, q: u64) -> State
     let a = fields::flag(bytes, words, s, q + leaf::HEIGHT_PRESENT);
     let s1 = a.state;
     let widths: [usize; 2] = [9, 8];
-    let s2 = common::values(bytes, words, s1, q, &widths);
+    let s2 = common::values(bytes, words, s1, q + leaf::RENDERER_VALUES, &widths);
     if a.value {
         return common::number(bytes, words, s2, q + leaf::HEIGHT_ENCODED, 6);
     }
@@ -65,10 +66,10 @@ fn spread_values(bytes: &[u8], words: &mut [u64], s: State, q: u64, width: usize
     let s2 = b.state;
     if a.value {
         let widths = [width; 3];
-        return common::values(bytes, words, s2, q, &widths);
+        return common::values(bytes, words, s2, q + leaf::RENDERER_VALUES, &widths);
     }
     let widths = [width; 2];
-    common::values(bytes, words, s2, q, &widths)
+    common::values(bytes, words, s2, q + leaf::RENDERER_VALUES, &widths)
 }
 
 // Kind 1: a spread, legacy or not.
@@ -210,7 +211,7 @@ fn room_geometry(bytes: &[u8], words: &mut [u64], s: State, q: u64) -> State
     let s2 = a.state;
     if a.value == 0 {
         let widths: [usize; 32] = [32; 32];
-        return common::values(bytes, words, s2, q, &widths);
+        return common::values(bytes, words, s2, q + leaf::RENDERER_VALUES, &widths);
     }
     fields::stop(s2, 31)
 }
@@ -273,10 +274,10 @@ fn single_region(bytes: &[u8], words: &mut [u64], s: State, q: u64) -> State
     let s2 = b.state;
     if b.value {
         let widths: [usize; 6] = [8; 6];
-        return common::values(bytes, words, s2, q, &widths);
+        return common::values(bytes, words, s2, q + leaf::RENDERER_VALUES, &widths);
     }
     let widths: [usize; 6] = [9, 9, 8, 8, 8, 8];
-    common::values(bytes, words, s2, q, &widths)
+    common::values(bytes, words, s2, q + leaf::RENDERER_VALUES, &widths)
 }
 
 // Kind 17: a region, if it is present.

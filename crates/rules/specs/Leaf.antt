@@ -152,9 +152,9 @@ id = 48
 abbrev pub encoded : ℕ
 encoded = 49
 
--- `encoded[k]`
-abbrev pub encodedValues : ℕ
-encodedValues = 50
+-- `encoded[k]` of renderer data
+abbrev pub rendererValues : ℕ
+rendererValues = 50
 
 abbrev pub gainEncoded : ℕ
 gainEncoded = 51
@@ -371,3 +371,7 @@ angleEncoded = 114
 -- `sizes_minus_one[k]`
 abbrev pub sizesMinusOne : ℕ
 sizesMinusOne = 115
+
+-- `encoded[k]` of a global parameter, which has fewer
+abbrev pub globalValues : ℕ
+globalValues = 116

@@ -1,6 +1,6 @@
 //! Name words, known or not, with enough bytes for their texts or too few.
 use super::batch::Batch;
-use crate::names::{GREATEST_INDEX, Template, templates, text};
+use crate::names::{Template, greatest_index, templates, text};
 use crate::rng::Rng;
 
 /// More bytes than any text has.
@@ -92,10 +92,10 @@ fn greatest(template: &Template) -> [u64; 4] {
 /// Indices up to the greatest and beyond it; only such as are unknown if the text has none.
 fn edges(greatest: Option<u64>) -> Vec<u64> {
     let Some(greatest) = greatest else {
-        return vec![1, GREATEST_INDEX];
+        return vec![1, greatest_index()];
     };
     let below = EDGES.into_iter().filter(|&index| index < greatest);
-    let last = [greatest, greatest + 1, GREATEST_INDEX];
+    let last = [greatest, greatest + 1, greatest_index()];
     below.chain(last).collect()
 }
 
@@ -106,7 +106,7 @@ fn some_template(rng: &mut Rng) -> &'static Template {
 /// A word whose indices are in their range, of few digits or many.
 fn known(rng: &mut Rng, template: &Template) -> u64 {
     let indices = greatest(template).map(|greatest| {
-        let most = rng.pick(&[9, 99, 999, GREATEST_INDEX]);
+        let most = rng.pick(&[9, 99, 999, greatest_index()]);
         rng.within(0..=greatest.min(most))
     });
     template.word(indices)

@@ -5,9 +5,6 @@ use Rattle.common.specs.Common.{values}
 use Rattle.common.proofs.values.Statement.{statement}
 use Rattle.common.proofs.values.Tie as tie
 
-add-passive-values : tie.Need-add-passive-values
-add-passive-values c = search needs
-
 passive-values-requires : tie.Need-passive-values-requires
 passive-values-requires c κs =
     let pre = c .before .before .before .before .pre in
@@ -21,4 +18,4 @@ unfolding values
 returns c = search readings depth 14
 
 pub values-spec : {M : Type 1} → statement M
-values-spec = tie.close (tie.spec add-passive-values passive-values-requires same-length returns)
+values-spec = tie.close (tie.spec passive-values-requires same-length returns)

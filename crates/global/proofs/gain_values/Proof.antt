@@ -10,6 +10,9 @@ add-flag c = search needs
 flag-requires : tie.Need-flag-requires
 flag-requires c κs = search needs
 
+add-values : tie.Need-add-values
+add-values c = search needs
+
 slice-aggregate-values : tie.Need-slice-aggregate-values
 slice-aggregate-values c = search needs
 
@@ -22,6 +25,9 @@ same-length c = search needs
 returns : tie.Need-returns
 unfolding gainValues
 returns c = search readings depth 14
+
+add-values-2 : tie.Need-add-values-2
+add-values-2 c = search needs
 
 slice-aggregate-values-2 : tie.Need-slice-aggregate-values-2
 slice-aggregate-values-2 c = search needs
@@ -42,10 +48,12 @@ gain-values-spec =
     (tie.spec
     add-flag
     flag-requires
+    add-values
     slice-aggregate-values
     values-requires
     same-length
     returns
+    add-values-2
     slice-aggregate-values-2
     values-requires-2
     same-length-2

@@ -4,6 +4,9 @@ use Rattle.global.specs.Global.{maskedItems}
 use Rattle.global.proofs.masked_items.Statement.{statement}
 use Rattle.global.proofs.masked_items.Tie as tie
 
+add-values : tie.Need-add-values
+add-values c = search needs
+
 slice-aggregate-values : tie.Need-slice-aggregate-values
 slice-aggregate-values c = search needs
 
@@ -27,6 +30,7 @@ pub masked-items-spec : {M : Type 1} → statement M
 masked-items-spec =
     tie.close
     (tie.spec
+    add-values
     slice-aggregate-values
     values-requires
     items-requires

@@ -13,6 +13,9 @@ add-number c = search needs
 number-requires : tie.Need-number-requires
 number-requires c κs = search needs
 
+add-values : tie.Need-add-values
+add-values c = search needs
+
 slice-aggregate-values : tie.Need-slice-aggregate-values
 slice-aggregate-values c = search needs
 
@@ -34,6 +37,9 @@ metadata-resource-requires c κs = search needs
 labelled-layout-requires : tie.Need-labelled-layout-requires
 labelled-layout-requires c κs = search needs
 
+add-values-2 : tie.Need-add-values-2
+add-values-2 c = search needs
+
 slice-aggregate-values-2 : tie.Need-slice-aggregate-values-2
 slice-aggregate-values-2 c = search needs
 
@@ -51,6 +57,9 @@ add-number-2 c = search needs
 
 number-requires-2 : tie.Need-number-requires-2
 number-requires-2 c κs = search needs
+
+add-values-3 : tie.Need-add-values-3
+add-values-3 c = search needs
 
 slice-aggregate-values-3 : tie.Need-slice-aggregate-values-3
 slice-aggregate-values-3 c = search needs
@@ -187,6 +196,7 @@ metadata-global-parameter-spec =
     (tie.spec
     add-number
     number-requires
+    add-values
     slice-aggregate-values
     values-requires
     gain-requires
@@ -194,12 +204,14 @@ metadata-global-parameter-spec =
     hrtf-requires
     metadata-resource-requires
     labelled-layout-requires
+    add-values-2
     slice-aggregate-values-2
     values-requires-2
     default-position-requires
     predefined-requires
     add-number-2
     number-requires-2
+    add-values-3
     slice-aggregate-values-3
     values-requires-3
     headphones-requires

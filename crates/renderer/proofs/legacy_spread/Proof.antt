@@ -10,6 +10,9 @@ add-flag c = search needs
 flag-requires : tie.Need-flag-requires
 flag-requires c κs = search needs
 
+add-values : tie.Need-add-values
+add-values c = search needs
+
 slice-aggregate-values : tie.Need-slice-aggregate-values
 slice-aggregate-values c = search needs
 
@@ -42,6 +45,7 @@ legacy-spread-spec =
     (tie.spec
     add-flag
     flag-requires
+    add-values
     slice-aggregate-values
     values-requires
     add-number

@@ -20,6 +20,9 @@ add-take c = search needs
 take-requires : tie.Need-take-requires
 take-requires c κs = search needs
 
+add-values : tie.Need-add-values
+add-values c = search needs
+
 slice-aggregate-values : tie.Need-slice-aggregate-values
 slice-aggregate-values c = search needs
 
@@ -56,6 +59,7 @@ room-geometry-spec =
     metadata-resource-requires
     add-take
     take-requires
+    add-values
     slice-aggregate-values
     values-requires
     same-length

@@ -29,6 +29,9 @@ add-flag-2 c = search needs
 flag-requires-2 : tie.Need-flag-requires-2
 flag-requires-2 c κs = search needs
 
+add-values : tie.Need-add-values
+add-values c = search needs
+
 slice-aggregate-values : tie.Need-slice-aggregate-values
 slice-aggregate-values c = search needs
 
@@ -41,6 +44,9 @@ same-length-2 c = search needs
 returns-2 : tie.Need-returns-2
 unfolding singleRegion
 returns-2 c = search readings depth 14
+
+add-values-2 : tie.Need-add-values-2
+add-values-2 c = search needs
 
 slice-aggregate-values-2 : tie.Need-slice-aggregate-values-2
 slice-aggregate-values-2 c = search needs
@@ -67,10 +73,12 @@ single-region-spec =
     returns
     add-flag-2
     flag-requires-2
+    add-values
     slice-aggregate-values
     values-requires
     same-length-2
     returns-2
+    add-values-2
     slice-aggregate-values-2
     values-requires-2
     same-length-3

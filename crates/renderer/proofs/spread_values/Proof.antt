@@ -16,6 +16,9 @@ add-take c = search needs
 take-requires : tie.Need-take-requires
 take-requires c κs = search needs
 
+add-values : tie.Need-add-values
+add-values c = search needs
+
 slice-aggregate-values : tie.Need-slice-aggregate-values
 slice-aggregate-values c = search needs
 
@@ -28,6 +31,9 @@ same-length c = search needs
 returns : tie.Need-returns
 unfolding spreadValues
 returns c = search readings depth 14
+
+add-values-2 : tie.Need-add-values-2
+add-values-2 c = search needs
 
 slice-aggregate-values-2 : tie.Need-slice-aggregate-values-2
 slice-aggregate-values-2 c = search needs
@@ -50,10 +56,12 @@ spread-values-spec =
     flag-requires
     add-take
     take-requires
+    add-values
     slice-aggregate-values
     values-requires
     same-length
     returns
+    add-values-2
     slice-aggregate-values-2
     values-requires-2
     same-length-2

@@ -5,6 +5,9 @@ use lib.ListN.{length}
 use Rattle.renderer.proofs.three_values.Statement.{statement}
 use Rattle.renderer.proofs.three_values.Tie as tie
 
+add-values : tie.Need-add-values
+add-values c = search needs
+
 slice-aggregate-values : tie.Need-slice-aggregate-values
 slice-aggregate-values c = search needs
 
@@ -12,7 +15,7 @@ values-requires : tie.Need-values-requires
 values-requires c κs =
     let start = c .before .before .before .before in
     let long : length (start .args .t5) ≡ 3 = search needs in
-    (start .pre .0, (start .pre .1 .0, (start .pre .1 .1, omega arith)))
+    (start .pre .0, (omega (arith, start .pre .1 .0), (start .pre .1 .1, omega arith)))
 
 same-length : tie.Need-same-length
 same-length c = search needs
@@ -21,4 +24,5 @@ returns : tie.Need-returns
 returns c = search needs
 
 pub three-values-spec : {M : Type 1} → statement M
-three-values-spec = tie.close (tie.spec slice-aggregate-values values-requires same-length returns)
+three-values-spec = tie.close (tie.spec add-values
+    slice-aggregate-values values-requires same-length returns)
