@@ -1,8 +1,8 @@
 #!/usr/bin/env bash
-# A bounded comparison with the Rust: the oracle is built and tested, the stored answers are made anew and held to the
-# stored ones, generated requests on the field layer are replayed by the program that rt has built, and generated requests
-# for a scene, an update, a position, a validation, metadata and the text of a name word are asked of the static library and
-# of the oracle. Recorded fields are named by texts on both sides.
+# A bounded comparison with the oracle, which is the Rust, and for name words docs/FIELDS.md. It is built and tested, the
+# stored answers are made anew and held to the stored ones, generated requests on the field layer are replayed by the program
+# that rt has built, and generated requests for a scene, an update, a position, a validation, metadata and the text of a name
+# word are asked of the static library and of the oracle. Recorded fields are named by texts on both sides.
 set -euo pipefail
 cd "$(dirname "$0")/.."
 export CARGO_TARGET_DIR=$PWD/target/oracle PORT_LIBRARY_DIR=$PWD/target/staticlib
@@ -14,7 +14,7 @@ work=$(mktemp -d)
 trap 'rm -rf "$work"' EXIT
 
 "$oracle" sample 1 | "$oracle" record | cmp - crates/replay/stdin
-echo "the stored answers are the Rust's"
+echo "the stored answers are the oracle's"
 
 "$oracle" generate 2 1 | grep '^fields ' >"$work/fields"
 result=$("$oracle" record <"$work/fields" | target/bin/replay)
@@ -25,7 +25,7 @@ rt staticlib gateway
 cargo build --quiet --release --offline --manifest-path oracle/Cargo.toml -p port
 cargo test --quiet --release --offline --manifest-path oracle/Cargo.toml -p port
 
-# Asks the library and the Rust what this command of the oracle writes. The files of one command take the room of the last's.
+# Asks the library and the oracle what this command writes. The files of one command take the room of the last's.
 compared() {
   "$oracle" "$@" | grep -v '^fields ' >"$work/asked"
   "$oracle" answer <"$work/asked" >"$work/rust"

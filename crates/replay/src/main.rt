@@ -1,5 +1,6 @@
-// Replays recorded answers of the Rust. Standard input holds records; each is run, and its answer, its shapes, its field
-// words and the words after them are held to what the Rust gave, and so are a name's text and the bytes after it.
+// Replays recorded answers of the oracle: those of the Rust, and for name words, which it does not have, those of
+// docs/FIELDS.md. Standard input holds records; each is run, and its answer, its shapes, its field words and the words after
+// them are held to what the oracle gave, and so are a name's text and the bytes after it.
 // `oracle/README.md` says how a record is laid out: a head of 34 bytes, the input, what is handed in, the shapes after the
 // call, and the words of the recorded fields or the text.
 use libc::STDIN_FILENO;
