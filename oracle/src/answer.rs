@@ -41,11 +41,11 @@ pub struct Verdict {
 pub struct Answer {
     pub kind: &'static str,
     pub verdict: Verdict,
-    /// The fields counted, or the length of a name's text. With recording off no field is listed.
+    /// The fields counted, or the length of a text. With recording off no field is listed.
     pub count: usize,
     pub shapes: Vec<Shape>,
     pub fields: Vec<Field>,
-    /// The text of a name that was read.
+    /// The text of a name that was read, or what is printed for a show.
     pub text: Option<String>,
 }
 
@@ -122,12 +122,17 @@ impl Answer {
         }
     }
 
-    /// An answer to a name word.
-    pub fn of_name(verdict: Verdict, length: usize, text: Option<String>) -> Self {
+    /// An answer that is a text, of a name or of a show.
+    pub fn of_text(
+        kind: &'static str,
+        verdict: Verdict,
+        length: usize,
+        text: Option<String>,
+    ) -> Self {
         Self {
             count: length,
             text,
-            ..Self::bare("name", verdict, &[])
+            ..Self::bare(kind, verdict, &[])
         }
     }
 
@@ -181,7 +186,7 @@ impl fmt::Display for Answer {
             "{kind} {outcome} {number} {position} {count} {positions} {shapes} "
         )?;
         match &self.text {
-            Some(text) => f.write_str(text),
+            Some(text) => f.write_str(&text.replace('\n', "/")),
             None => f.write_str(&joined(self.fields.iter().map(Field::to_string), ";")),
         }
     }

@@ -3,6 +3,7 @@ use crate::answer::{Answer, Field, Outcome, Verdict};
 use crate::label;
 use crate::names;
 use crate::request::{Call, Question, Request, Shape};
+use crate::show;
 use apac::run::{End, Reading, Run};
 use std::panic::{AssertUnwindSafe, catch_unwind};
 
@@ -32,6 +33,7 @@ pub fn answer(request: &Request) -> Answer {
         Request::Call(call) => answer_call(call),
         Request::Validation { at, shapes } => answer_validation(*at, shapes),
         Request::Name { word, room } => answer_name(*word, *room as usize),
+        Request::Show { bytes } => show::answer(bytes),
     }
 }
 
@@ -57,13 +59,13 @@ fn answer_validation(at: u64, shapes: &[Shape]) -> Answer {
 
 /// Questions 25 and 26. The Rust has no words, so the tables of docs/FIELDS.md answer.
 fn answer_name(word: u64, room: usize) -> Answer {
-    let refused = |number| Answer::of_name(Verdict::refused(number, 0), 0, None);
+    let refused = |number| Answer::of_text("name", Verdict::refused(number, 0), 0, None);
     match names::text(word) {
         None => refused(25),
         Some(text) if room < text.len() => refused(26),
         Some(text) => {
             let read = Verdict::without_number(Outcome::Read);
-            Answer::of_name(read, text.len(), Some(text))
+            Answer::of_text("name", read, text.len(), Some(text))
         }
     }
 }

@@ -13,6 +13,7 @@ pub mod record;
 pub mod request;
 mod rng;
 mod script;
+mod show;
 pub mod table;
 #[cfg(test)]
 mod tests;

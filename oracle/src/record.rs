@@ -6,7 +6,7 @@ use crate::request::{Question, Request, Shape};
 use apac::run::{Action, Op};
 
 /// The kinds of requests; the first byte of a record is the place of its kind here.
-const KINDS: [&str; 7] = [
+const KINDS: [&str; 8] = [
     "fields",
     "scene",
     "update",
@@ -14,6 +14,7 @@ const KINDS: [&str; 7] = [
     "validation",
     "metadata",
     "name",
+    "show",
 ];
 
 /// The record of a request and its answer.
@@ -35,6 +36,7 @@ fn put_arguments(record: &mut Vec<u8>, request: &Request) -> Result<(), String> 
         Request::Call(call) => (call.recording, call.room, call.offset, call.bytes.len()),
         Request::Validation { at, .. } => (false, 0, *at, 0),
         Request::Name { word, room } => (false, *room, *word, 0),
+        Request::Show { bytes } => (false, 0, 0, bytes.len()),
     };
     record.push(recording.into());
     record.extend(room.to_be_bytes());
@@ -56,7 +58,7 @@ fn own_number(request: &Request) -> usize {
 fn question(request: &Request) -> Option<&Question> {
     match request {
         Request::Call(call) => Some(&call.question),
-        Request::Validation { .. } | Request::Name { .. } => None,
+        Request::Validation { .. } | Request::Name { .. } | Request::Show { .. } => None,
     }
 }
 
@@ -85,8 +87,10 @@ fn outcome_code(outcome: &Outcome) -> Result<u8, String> {
 
 /// The input, and the operations or the shapes that were handed in.
 fn put_given(record: &mut Vec<u8>, request: &Request) -> Result<(), String> {
-    if let Request::Call(call) = request {
-        record.extend_from_slice(&call.bytes);
+    match request {
+        Request::Call(call) => record.extend_from_slice(&call.bytes),
+        Request::Show { bytes } => record.extend_from_slice(bytes),
+        Request::Validation { .. } | Request::Name { .. } => {}
     }
     if let Some(Question::Fields(ops)) = question(request) {
         ops.iter().for_each(|op| put_op(record, op));
@@ -94,7 +98,8 @@ fn put_given(record: &mut Vec<u8>, request: &Request) -> Result<(), String> {
     put_shapes(record, request.shapes())
 }
 
-/// The shapes after the call, a scene's with their number before them, the fields, a name's text.
+/// The shapes after the call, a scene's with their number before them, the fields, the text of a
+/// name or a show.
 fn put_result(record: &mut Vec<u8>, answer: &Answer) -> Result<(), String> {
     if answer.kind == "scene" {
         record.extend(fitting::<u16>(answer.shapes.len())?.to_be_bytes());
@@ -223,6 +228,16 @@ mod tests {
         check("name 257 26", &[&plain(head)]);
         let head = "06_00_00000000_ffffffffffffffff_00000000_0000_01_19_0000000000000000_00000000";
         check(&format!("name {} 0", u64::MAX), &[&plain(head)]);
+    }
+
+    #[test]
+    fn shows() {
+        let head = "07_00_00000000_0000000000000000_00000008_0000_00_00_0000000000000000_00000017";
+        let (file, text) = ("0001000000060000", hex(b"part 0 read 6 fields 1\n"));
+        check(&format!("show {file}"), &[&plain(head), file, &text]);
+        let head = "07_00_00000000_0000000000000000_00000001_0000_01_18_0000000000000000_00000010";
+        let text = hex(b"file refused 24\n");
+        check("show 00", &[&plain(head), "00", &text]);
     }
 
     /// No more shapes than 63 are written, and their true number.

@@ -40,6 +40,10 @@ pub enum Request {
         word: u64,
         room: u32,
     },
+    /// What is printed for a show file.
+    Show {
+        bytes: Vec<u8>,
+    },
 }
 
 impl Question {
@@ -69,6 +73,7 @@ impl Request {
             Self::Call(call) => call.question.kind(),
             Self::Validation { .. } => "validation",
             Self::Name { .. } => "name",
+            Self::Show { .. } => "show",
         }
     }
 
@@ -77,7 +82,7 @@ impl Request {
         match self {
             Self::Call(call) => call.question.shapes(),
             Self::Validation { shapes, .. } => shapes,
-            Self::Name { .. } => &[],
+            Self::Name { .. } | Self::Show { .. } => &[],
         }
     }
 
@@ -92,6 +97,9 @@ impl Request {
             "name" => Self::Name {
                 word: number(words.next()?)?,
                 room: number(words.next()?)?,
+            },
+            "show" => Self::Show {
+                bytes: unhex(words.next()?)?,
             },
             _ => Self::Call(Call::parse(kind, &mut words)?),
         };
@@ -133,6 +141,7 @@ impl fmt::Display for Request {
             Self::Call(call) => call.fmt(f),
             Self::Validation { at, shapes } => write!(f, "validation {at} {}", shape_list(shapes)),
             Self::Name { word, room } => write!(f, "name {word} {room}"),
+            Self::Show { bytes } => write!(f, "show {}", hex(bytes)),
         }
     }
 }

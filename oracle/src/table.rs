@@ -4,13 +4,14 @@ use apac::numbers::{REFUSALS, STOPS};
 use std::collections::BTreeMap;
 
 /// The kinds of requests, scripts last.
-const KINDS: [&str; 7] = [
+const KINDS: [&str; 8] = [
     "scene",
     "update",
     "position",
     "metadata",
     "validation",
     "name",
+    "show",
     "fields",
 ];
 
@@ -25,6 +26,7 @@ const ENDS: [&[u8]; KINDS.len()] = [
     ],
     &[8, 9],
     &[25, 26],
+    &[23, 24],
     &[],
 ];
 
@@ -32,7 +34,7 @@ const ENDS: [&[u8]; KINDS.len()] = [
 const ENOUGH: usize = 5;
 
 /// Read, and the questions that document 01 adds.
-const ADDED: [u8; 6] = [0, 1, 2, 5, 25, 26];
+const ADDED: [u8; 8] = [0, 1, 2, 5, 23, 24, 25, 26];
 
 #[derive(Default)]
 pub struct Table {

@@ -3,6 +3,7 @@ use crate::answer::Answer;
 use crate::bits::Bits;
 use crate::driver::answer;
 use crate::request::Request;
+use crate::table::Table;
 use crate::text::hex;
 
 fn ask(line: &str) -> Answer {
@@ -170,6 +171,31 @@ fn names() {
     let line = ask("name 257 26").to_string();
     assert_eq!(line, "name refused 26 0 0 0 - -");
     assert_eq!(verdict("name 258 26"), "refused 25 0 0");
+}
+
+#[test]
+fn shows() {
+    let line = ask("show 00010000000600").to_string();
+    assert_eq!(line, "show read 0 0 23 0 - part 0 read 6 fields 1/");
+    let line = ask("show -").to_string();
+    assert_eq!(line, "show refused 24 0 16 0 - file refused 24/");
+    let long = "00".repeat(65_537);
+    assert_eq!(verdict(&format!("show {long}")), "refused 23 0 16");
+    for line in ["show", "show 0", "show 00 00", "show 0 0 0 00"] {
+        assert!(Request::parse(line).is_err(), "{line}");
+    }
+}
+
+#[test]
+fn table_of_shows() {
+    let mut table = Table::default();
+    let mut count = |line| table.count(line).expect("an answer");
+    (0..4).for_each(|_| count("show refused 23 0 16 0 - file refused 23/"));
+    (0..5).for_each(|_| count("show refused 24 0 16 0 - file refused 24/"));
+    assert_eq!(table.rare(), ["show 23"]);
+    assert!(!table.is_odd());
+    table.count("show disagree 0 0 0 0 - -").expect("an answer");
+    assert!(table.is_odd());
 }
 
 #[test]

@@ -1,7 +1,9 @@
 -- The claim on a scene and the calls after it, for any step that is by the rules.
-use mathlib.Core.Path.{_≡_, refl, sym, _∙_, ap, ap₂, subst}
+use Prim.Native.Nat.{suc, _≤_}
+use mathlib.Core.Path.{_≡_, refl, sym, _∙_, ap, ap₂}
 use mathlib.Core.Bool.{Bool, true, false}
 use mathlib.Core.List.{List, [], _∷_}
+use native.Mathlib.Omega.{arith}
 use lib.ListN.{length}
 use Rattle.rules.specs.Reading.{Result, read, ended, isRead}
 use Rattle.rules.specs.Answer.{outcomeOf, valueOr}
@@ -10,7 +12,7 @@ use Rattle.position.specs.declared.PositionSyntax.{PositionSyntax}
 use Rattle.validation.specs.Rank.{HaveRanks, parents}
 use Rattle.claims.specs.Book.{Packet, input, Given, given, bookScene, bookFirst, bookReading, kept, bookAnswers, bookShapes}
 use Rattle.claims.specs.Run.{Call, Ran, none, call, packets, answers, accepted, ListClaim}
-use Rattle.claims.proofs.Shapes.{update-ranked, update-many}
+use Rattle.claims.proofs.Shapes.{scene-many, update-ranked, update-many}
 
 -- a scene by the rules, whose declared shapes are s
 pub record SceneByRules (scene : Call) (s : List PositionSyntax) : Type 0 where
@@ -33,19 +35,28 @@ kept-ended : (s : List PositionSyntax) (x : Result (List PositionSyntax)) → is
 kept-ended s (read l) h = never refl h
 kept-ended s (ended z) h = refl
 
--- what a call keeps: ranks, and the number of shapes
-module _ {s t : List PositionSyntax} {c : Call} (q : ByRules s c t) where
-  ranks-kept : HaveRanks (parents s) → HaveRanks (parents t)
-  ranks-kept h =
-      let x = bookReading (c .packet) s in
-      let P : List PositionSyntax → Type 0 = λ l. HaveRanks (parents l) in
-      subst P (sym (q .leaves)) (kept-by P s (x .result) h (update-ranked (input (c .packet)) (c .packet .offset) (length s) s))
+-- what the book keeps of its shapes by a packet: ranks, and their number
+module _ (p : Packet) (s : List PositionSyntax) where
+  kept-ranked : HaveRanks (parents s) → HaveRanks (parents (kept (bookReading p s) s))
+  kept-ranked h = kept-by (λ l. HaveRanks (parents l)) s (bookReading p s .result) h (update-ranked (input p) (p .offset) (length s) s)
 
-  number-kept : length t ≡ length s
-  number-kept =
-      let x = bookReading (c .packet) s in
-      let P : List PositionSyntax → Type 0 = λ l. length l ≡ length s in
-      subst P (sym (q .leaves)) (kept-by P s (x .result) refl (update-many (input (c .packet)) (c .packet .offset) (length s) s))
+  kept-many : length (kept (bookReading p s) s) ≡ length s
+  kept-many = kept-by (λ l. length l ≡ length s) s (bookReading p s .result) refl (update-many (input p) (p .offset) (length s) s)
+
+-- and by a list of them
+pub shapes-many : (ps : List Packet) (s : List PositionSyntax) → length (bookShapes ps s) ≡ length s
+unfolding bookShapes
+shapes-many [] s = refl
+shapes-many (p ∷ ps) s = shapes-many ps (kept (bookReading p s) s) ∙ kept-many p s
+
+pub answers-many : (ps : List Packet) (s : List PositionSyntax) → length (bookAnswers ps s) ≡ length ps
+unfolding bookAnswers
+answers-many [] s = refl
+answers-many (p ∷ ps) s = ap suc (answers-many ps (kept (bookReading p s) s))
+
+-- a scene has at most 63 positions
+pub first-many : (p : Packet) → length (bookFirst p) ≤ 63
+first-many p = kept-by (λ l. length l ≤ 63) [] (bookScene p .result) (omega arith) (scene-many (input p) (p .offset))
 
 -- the book on the calls `cs` alone gives their answers and the shapes t
 record Same (s : List PositionSyntax) (cs : List Call) (t : List PositionSyntax) : Type 0 where
@@ -78,11 +89,11 @@ accepted-no c cs e = rw e
 -- calls by the rules, one after another
 ranked : {s t : List PositionSyntax} {cs : List Call} → HaveRanks (parents s) → Ran ByRules s cs t → HaveRanks (parents t)
 ranked h none = h
-ranked h (call q r) = ranked (ranks-kept q h) r
+ranked {s} h (call {c = c} q r) = ranked (rw (q .leaves) (kept-ranked (c .packet) s h)) r
 
 as-many : {s t : List PositionSyntax} {cs : List Call} → Ran ByRules s cs t → length t ≡ length s
 as-many none = refl
-as-many (call q r) = as-many r ∙ number-kept q
+as-many {s} (call {c = c} q r) = as-many r ∙ ap length (q .leaves) ∙ kept-many (c .packet) s
 
 all-same : {s t : List PositionSyntax} {cs : List Call} → Ran ByRules s cs t → Same s cs t
 all-same none = same-none _

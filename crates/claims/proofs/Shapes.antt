@@ -1,17 +1,23 @@
--- What holds of the shapes that a scene or an update gives: they have ranks, and an update gives as many as it was handed.
-use Prim.Native.Nat.{ℕ, suc, _+_}
+-- What holds of the shapes that a scene or an update gives: they have ranks; a scene gives at most 63, and an update as many
+-- as it was handed.
+use Prim.Native.Nat.{ℕ, suc, _+_, _-_, _*_, _^_, _<_, _≤_}
 use mathlib.Core.Path.{_≡_, refl, sym, ap}
 use mathlib.Core.List.{List, [], _∷_}
-use mathlib.Core.Bool.{false}
+use mathlib.Core.Bool.{true, false, _&&_}
 use mathlib.Core.Logic.{_↔_}
-use lib.ListN.{length}
+use native.Mathlib.Omega.{arith}
+use lib.Dec.{ltb, leb}
+use lib.ListN.{length, replicate, length-replicate}
+use Rattle.bits.proofs.Laws.{bits-lt}
 use Rattle.rules.specs.declared.Field.{Field}
-use Rattle.rules.specs.Rule.{Rule, _>>=_}
-use Rattle.rules.specs.Reading.{Result, read, ended, Input, reading}
-use Rattle.rules.specs.Derived.{entry, each}
+use Rattle.rules.specs.Rule.{Rule, _>>=_, refused, position, bits, field}
+use Rattle.rules.specs.Reading.{Reading, Result, read, ended, Input, reading, hasRoom}
+use Rattle.rules.specs.Derived.{take, demand, remaining, count, drcCount, entry, each}
 use Rattle.rules.specs.Answer.{outcomeOf, outcomeNumber, entryThen, entryReading}
 use Rattle.rules.proofs.Bind.{after, bind, assoc}
+use Rattle.rules.proofs.Pick.{by-pick}
 use Rattle.position.specs.declared.PositionSyntax.{PositionSyntax}
+use Rattle.position.specs.Shape.{default}
 use Rattle.validation.specs.Rank.{parents, HaveRanks, ForParents}
 use Rattle.validation.specs.Validation.{validateGraph, ifValid}
 use Rattle.validation.proofs.Refusals.{refused-for-parents, read-has-ranks}
@@ -63,6 +69,10 @@ any : {A : Type 0} (x : Result A) → IfRead (λ _. Unit {0}) x
 any (read a) = tt
 any (ended x) = tt
 
+if-less : {A : Type 0} (P Q : A → Type 0) (x : Result A) → IfRead P x → ((a : A) → P a → Q a) → IfRead Q x
+if-less P Q (read a) h k = k a h
+if-less P Q (ended x) h k = tt
+
 -- of a rule and then another: what is known of the first value may be used for the second
 if-then : {A B : Type 0} (i : Input) (P : A → Type 0) (Q : B → Type 0) (r : Rule A) (f : A → Rule B) →
     ((p e n : ℕ) → IfRead P (reading i r p e n .result)) → ((a : A) → P a → (p e n : ℕ) → IfRead Q (reading i (f a) p e n .result)) →
@@ -78,6 +88,23 @@ if-last : {A B : Type 0} (i : Input) (Q : B → Type 0) (r : Rule A) (f : A → 
     (p e n : ℕ) → IfRead Q (reading i (r >>= f) p e n .result)
 if-last i Q r f h = if-then i (λ _. Unit {0}) Q r f (λ p e n. any (reading i r p e n .result)) (λ a _. h a)
 
+-- a number that was read by `drc_count` is below what its bits can hold
+take-least : (i : Input) (name w p e n : ℕ) → IfRead (λ v. v < 2 ^ w) (reading i (take name w) p e n .result)
+unfolding take position bits field _>>=_ reading
+take-least i name w p e n =
+    let P : Reading ℕ → Type 0 = λ x. IfRead (λ v. v < 2 ^ w) (x .result) in
+    by-pick P (ltb (e - p) w) _ _ (λ _. tt)
+    (λ _.
+    by-pick P (ltb n 16384) _ _
+    (λ _. by-pick P (hasRoom i n) _ _ (λ _. bits-lt (i .bytes) p w) (λ _. tt))
+    (λ _. tt))
+
+drc-count-least : (i : Input) (name w least p e n : ℕ) → IfRead (λ v. v < 2 ^ w) (reading i (drcCount name w least) p e n .result)
+unfolding drcCount count reading
+drc-count-least i name w least =
+    if-then i (λ v. v < 2 ^ w) _ (take name w) _ (take-least i name w)
+    (λ v h. if-last i _ remaining _ (λ left. if-last i _ (demand (leb v 4096 && leb (v * least) left) (refused 6)) _ (λ _ p e n. h)))
+
 -- a loop over a list gives as many values as it was handed, and an update as many shapes
 each-many : {A : Type 0} (i : Input) (f : ℕ → A → Rule A) (k : ℕ) (xs : List A) (p e n : ℕ) →
     IfRead (λ ys. length ys ≡ length xs) (reading i (each f k xs) p e n .result)
@@ -86,6 +113,27 @@ each-many i f k [] = λ p e n. refl
 each-many i f k (x ∷ xs) =
     if-last i _ (f k x) _
     (λ y. if-then i (λ ys. length ys ≡ length xs) _ (each f (k + 1) xs) _ (each-many i f (k + 1) xs) (λ ys q p e n. ap suc q))
+
+abbrev Fits : List PositionSyntax → Type 0
+Fits l = length l ≤ 63
+
+few : (n : ℕ) → n < 2 ^ 6 → (l : List PositionSyntax) → length l ≡ length (replicate n default) → Fits l
+few n h l q = let long = length-replicate n default in omega arith
+
+module _ (i : Input) (offset : ℕ) where
+  at-most-63 : IfRead Fits (sceneReading i offset .result)
+  unfolding sceneGraph sceneFields positions reading
+  at-most-63 =
+      if-last i _ (entry (length (i .bytes)) 0 offset) _
+      (λ _.
+      if-then i Fits _ sceneFields ifValid
+      (if-then i (λ n. n < 2 ^ 6) _ (drcCount _ 6 18) _ (drc-count-least i _ 6 18)
+      (λ n h p e k. if-less _ Fits (reading i (positions true (replicate n default)) p e k .result) (each-many i (positionAt true) 0 (replicate n default) p e k) (few n h)))
+      (λ l q. if-last i _ (validateGraph l) _ (λ _ p e n. q)))
+      0 0 0
+
+  pub scene-many : (l : List PositionSyntax) → sceneReading i offset .result ≡ read l → length l ≤ 63
+  scene-many l h = rw h at at-most-63
 
 module _ (i : Input) (offset count : ℕ) (s : List PositionSyntax) where
   as-many : IfRead (λ l. length l ≡ length s) (updateReading i offset count s .result)

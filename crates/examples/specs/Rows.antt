@@ -1,7 +1,8 @@
 -- Document 01's worked examples as rows, and the one claim that all of them hold of the definitions.
 use Prim.Native.Nat.{ℕ, _*_, _/_, _%_, _^_}
 use mathlib.Core.Path.{_≡_}
-use mathlib.Core.List.{List, [], _∷_, map}
+use Prim.Native.String.{String}
+use mathlib.Core.List.{List, [], _∷_, _++_, map}
 use mathlib.Core.Bool.{false}
 use lib.ListN.{length}
 use Rattle.rules.specs.Rule.{Rule}
@@ -10,7 +11,10 @@ use Rattle.rules.specs.Derived.{escaped}
 use Rattle.rules.specs.Answer.{outcomeOf, outcomeNumber, valueOr}
 use Rattle.validation.specs.Rank.{parents}
 use Rattle.compression.specs.Probability.{floats}
+use Rattle.text.specs.Text.{ascii}
 use Rattle.claims.specs.Book.{Packet, bookScene, bookFirst, bookReading, bookShapes}
+use Rattle.show.specs.Header.{fileQuestion}
+use Rattle.show.specs.Show.{showText}
 
 -- an example of each kind: what is read, from the first bit on and with recording off
 pub data Example : Type 0 where
@@ -20,10 +24,13 @@ pub data Example : Type 0 where
   sceneIn : (bytes : List ℕ) → Example
   -- a packet after a scene and the packets before it, refused ones included
   packetAfter : (scene : List ℕ) (before : List (List ℕ)) (bytes : List ℕ) → Example
+  -- a show file
+  showIn : (file : List ℕ) → Example
   -- a table's probabilities at precision 32, of these patterns
   probabilitiesOf : (patterns : List ℕ) → Example
 
--- and what it gives: the number (0 if read), the bit position, how many fields, and the value, or the parents of the shapes
+-- and what it gives: the number (0 if read), the bit position, how many fields, and the value, the parents of the shapes, or
+-- the printed text
 pub record Row : Type 0 where
   pub example : Example
   pub number : ℕ
@@ -57,6 +64,7 @@ given (sceneIn bs) = row (sceneIn bs) (bookScene (packetIn bs)) parents []
 given (packetAfter scene before bs) =
     let shapes = bookShapes (map packetIn before) (bookFirst (packetIn scene)) in
     row (packetAfter scene before bs) (bookReading (packetIn bs) shapes) parents shapes
+given (showIn file) = record { example = showIn file; number = fileQuestion file; position = 0; fields = 0; values = showText file }
 given (probabilitiesOf xs) = row (probabilitiesOf xs) (whole (bytesOf xs) (floats 0 (length xs))) (λ _. []) tt
 
 abbrev pub AllHold : List Row → Type 0
@@ -76,6 +84,17 @@ part2 = 0x70 ∷ []
 abbrev pub part3 : List ℕ
 part3 = 0xC1 ∷ 0x00 ∷ []
 
+-- and the whole file
+abbrev pub show : List ℕ
+show =
+    0x00 ∷ 0x04 ∷ 0x00 ∷ 0x00 ∷ 0x00 ∷ 0x12 ∷ 0x00 ∷ 0x00 ∷ 0x00 ∷ 0x18 ∷ 0x00 ∷ 0x00 ∷ 0x00 ∷ 0x1A ∷ 0x00 ∷ 0x00 ∷ 0x00 ∷ 0x1B
+    ∷ (part0 ++ (part1 ++ (part2 ++ part3)))
+
+-- the ASCII codes of lines
+abbrev pub lines : List String → List ℕ
+lines [] = []
+lines (l ∷ ls) = ascii l ++ (10 ∷ lines ls)
+
 abbrev pub rows : List Row
 rows =
     -- widths 4, 7, 10 on 1111 0000000: value 15
@@ -91,6 +110,23 @@ rows =
     record { example = packetAfter part0 [] part1; number = 9; position = 13; fields = 8; values = 0 ∷ 1 ∷ [] } ∷
     record { example = packetAfter part0 (part1 ∷ []) part2; number = 0; position = 7; fields = 7; values = 0 ∷ 0 ∷ [] } ∷
     record { example = packetAfter part0 (part1 ∷ part2 ∷ []) part3; number = 0; position = 13; fields = 8; values = 2 ∷ 0 ∷ [] } ∷
+    record {
+      example = showIn show;
+      number = 0;
+      position = 0;
+      fields = 0;
+      values =
+          lines
+          ("part 0 read 48 fields 20"
+          ∷ "part 1 refused 9 at 13"
+          ∷ "part 2 read 7 fields 7"
+          ∷ "part 3 read 13 fields 8"
+          ∷ "position 1 parent 2 rank 2"
+          ∷ "position 2 parent 0 rank 1"
+          ∷ []);
+    } ∷
+    -- a file of no bytes
+    record { example = showIn []; number = 24; position = 0; fields = 0; values = lines ("file refused 24" ∷ []) } ∷
     -- probabilities: 2^-24 added to 1 is lost, and again; two of them before it are not; -0 passes
     record { example = probabilitiesOf (0x3F80_0000 ∷ 0x3380_0000 ∷ 0x3380_0000 ∷ 0 ∷ []); number = 0; position = 128; fields = 4; values = [] } ∷
     record { example = probabilitiesOf (0x3380_0000 ∷ 0x3380_0000 ∷ 0x3F80_0000 ∷ 0 ∷ []); number = 22; position = 128; fields = 4; values = [] } ∷

@@ -14,7 +14,7 @@ use Rattle.scene.specs.declared.SceneAnswer.{SceneAnswer}
 use Rattle.scene.specs.Scene.{SceneAnswered}
 use Rattle.update.specs.declared.UpdateAnswer.{UpdateAnswer}
 use Rattle.update.specs.Update.{UpdateAnswered}
-use Rattle.names.specs.declared.NameAnswer.{NameAnswer}
+use Rattle.text.specs.declared.TextAnswer.{TextAnswer}
 use Rattle.names.specs.NameText.{NameAnswered}
 use Rattle.gateway.specs.declared.GatewayName.{GatewayName}
 use Rattle.gateway.specs.declared.GatewayAnswer.{GatewayAnswer}
@@ -57,7 +57,7 @@ pub record MetadataExported (x : Reading (Unit {0})) (rec : Bool) (ws : List ℕ
   pub same : r ≡ exported answer
 
 -- and so for a name
-abbrev pub nameExported : NameAnswer → GatewayName
+abbrev pub nameExported : TextAnswer → GatewayName
 nameExported a =
     record {
       outcome = outcomeCode (a .outcome);
@@ -67,6 +67,6 @@ nameExported a =
     }
 
 pub record NameExported (w number : ℕ) (bytes : List ℕ) (r : GatewayName) (after : List ℕ) : Type 0 where
-  pub answer : NameAnswer
+  pub answer : TextAnswer
   pub named : NameAnswered w number bytes answer after
   pub same : r ≡ nameExported answer

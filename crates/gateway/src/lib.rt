@@ -1,9 +1,9 @@
 // What a gateway calls from C or Rust: the readings as exported functions over numbers, slices and plain structs. None asks
 // anything of its caller.
-use names::NameAnswer;
 use position::PositionSyntax;
 use rules::Answer;
 use rules::Outcome;
+use text::TextAnswer;
 ghost use mathlib.Core.Path.{_≡_};
 ghost use lib.ListN.{length, take};
 ghost use Rattle.rules.specs.Answer.{inputOf, answerOf, outcomeNumber};
@@ -94,7 +94,7 @@ fn exported(a: Answer) -> GatewayAnswer
     }
 }
 
-fn name_exported(a: NameAnswer) -> GatewayName
+fn name_exported(a: TextAnswer) -> GatewayName
     ensures { λ r. ⌜ r ≡ nameExported a ⌝ }
 {
     let told = a.outcome;

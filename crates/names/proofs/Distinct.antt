@@ -1,5 +1,5 @@
 -- Two known words have different texts.
-use Prim.Native.Nat.{ℕ, zero, suc, _+_, _*_, _/_, _%_, _^_, _≤_, _<_}
+use Prim.Native.Nat.{ℕ, suc, _+_, _*_, _/_, _^_, _≤_, _<_}
 use Prim.Native.String.{String}
 use mathlib.Core.Path.{_≡_, refl, sym, ap, ap₂, _∙_}
 use mathlib.Core.List.{List, [], _∷_, _++_, append-assoc, append-nil}
@@ -11,10 +11,11 @@ use lib.ListN.{length, getD, drop}
 use Rattle.rules.specs.Name.{prefix, named}
 use Rattle.rules.specs.Rule.{pick}
 use Rattle.rules.proofs.Laws.{never, both}
-use Rattle.names.specs.Table.{blocks, leaves, ascii, row, numberAt, greatestFirst, greatestSecond, inRange, standsIn}
+use Rattle.text.specs.Text.{ascii}
+use Rattle.names.specs.Table.{blocks, leaves, row, numberAt, greatestFirst, greatestSecond, inRange, standsIn}
 use Rattle.names.specs.NameText.{known, indexed, blockText, leafText, nameText, blockRow, leafRow, blockOf, leafOf, firstOf, secondOf, thirdOf, fourthOf}
 use Rattle.names.proofs.Rows.{every, at-row, at-number, row-past}
-use Rattle.names.proofs.Forms.{upToBlank, closed, form, form-indexed, places, Same, same-indices}
+use Rattle.names.proofs.Forms.{upToBlank, closed, form, form-indexed, places, same-indices}
 
 or-elim : {P : Type 0} (a : Bool) {b : Bool} → (a || b) ≡ true → (a ≡ true → P) → (b ≡ true → P) → P
 or-elim true h f g = f refl

@@ -1,11 +1,11 @@
 -- Words and their texts: no index, one, and four of the greatest values; and words that are not known.
 use mathlib.Core.Path.{_≡_, refl}
-use mathlib.Core.Bool.{true, false}
+use mathlib.Core.Bool.{false}
 use Rattle.rules.specs.Name.{named}
 use Rattle.rules.specs.Block as block
 use Rattle.rules.specs.Leaf as leaf
-use Rattle.text.specs.Text.{decimal, decimalWithin}
-use Rattle.names.specs.Table.{blocks, leaves, ascii, row, inRange, standsIn}
+use Rattle.text.specs.Text.{ascii, decimal, decimalWithin}
+use Rattle.names.specs.Table.{blocks, leaves, row, inRange, standsIn}
 use Rattle.names.specs.NameText.{known, character, indexed, blockText, leafText, nameText}
 
 no-index : nameText (named block.sceneGraph leaf.count 0 0) ≡ ascii "ancillary.scene_graph.count"

@@ -9,9 +9,9 @@ use lib.Dec.{eqb, leb}
 use lib.ListN.{length, length-append}
 use Rattle.rules.specs.Rule.{pick}
 use Rattle.rules.proofs.Laws.{both}
-use Rattle.text.specs.Text.{decimal}
+use Rattle.text.specs.Text.{ascii, decimal}
 use Rattle.text.proofs.Decimal.{decimal-short}
-use Rattle.names.specs.Table.{blocks, leaves, ascii, row, greatestFirst, greatestSecond, inRange, standsIn}
+use Rattle.names.specs.Table.{blocks, leaves, row, greatestFirst, greatestSecond, inRange, standsIn}
 use Rattle.names.specs.NameText.{known, character, indexed, blockText, leafText, nameText, blockRow, leafRow, blockOf, leafOf, firstOf, secondOf, thirdOf, fourthOf}
 use Rattle.names.proofs.Rows.{every, at-row}
 

@@ -1,13 +1,13 @@
 -- What is promised at each way out of the call.
 use Prim.Native.Nat.{ℕ, _≤_, _<_}
-use mathlib.Core.Path.{_≡_, refl, ap}
+use mathlib.Core.Path.{_≡_, refl}
 use mathlib.Core.List.{List}
 use mathlib.Core.Bool.{true, false}
 use borrow.Author.Tests.{le-leb, lt-leb}
 use lib.ListN.{length}
 use lib.Seq.{sets}
 use Rattle.rules.specs.declared.Outcome.the-variants.{Read, Refused}
-use Rattle.names.specs.declared.NameAnswer.{NameAnswer}
+use Rattle.text.specs.declared.TextAnswer.{TextAnswer}
 use Rattle.names.specs.NameText.{known, nameText, roomQuestion, nameQuestion, NameAnswered}
 
 module _ (w : ℕ) (bytes : List ℕ) where
@@ -25,7 +25,7 @@ module _ (w : ℕ) (bytes : List ℕ) where
   unfolding nameQuestion
   not-known h = rw h (record { answer = refl; text = refl })
 
-  pub if-known : {r : NameAnswer} {after : List ℕ} → known w ≡ true → NameAnswered w (roomQuestion w (length bytes)) bytes r after →
+  pub if-known : {r : TextAnswer} {after : List ℕ} → known w ≡ true → NameAnswered w (roomQuestion w (length bytes)) bytes r after →
       NameAnswered w (nameQuestion w (length bytes)) bytes r after
   unfolding nameQuestion
   if-known h x = rw h x

@@ -12,7 +12,8 @@ use lib.ListN.{length, length-append, getD, take, drop, List·getD-eq-default}
 use lib.Seq.{take-at, drop-at, drop-drop}
 use Rattle.rules.specs.Rule.{pick}
 use Rattle.rules.proofs.Laws.{both}
-use Rattle.names.specs.Table.{ascii, row, blocks, leaves}
+use Rattle.text.specs.Text.{ascii}
+use Rattle.names.specs.Table.{row, blocks, leaves}
 
 -- a test that every row of a table passes with its number, counted from `i`, computed over the whole table
 abbrev pub every : (ℕ → List ℕ → Bool) → ℕ → List String → Bool

@@ -11,7 +11,7 @@ use Rattle.rules.specs.declared.Outcome.the-variants.{Read, Refused}
 use Rattle.rules.specs.Name.{first, second, third, fourth}
 use Rattle.rules.specs.Rule.{pick}
 use Rattle.text.specs.Text.{decimal}
-use Rattle.names.specs.declared.NameAnswer.{NameAnswer}
+use Rattle.text.specs.declared.TextAnswer.{TextAnswer}
 use Rattle.names.specs.Table.{blocks, leaves, row, inRange, standsIn}
 
 -- the parts of a word
@@ -72,13 +72,13 @@ roomQuestion w room = pick (leb (length (nameText w)) room) 0 26
 unfoldable pub nameQuestion : ℕ → ℕ → ℕ
 nameQuestion w room = pick (known w) (roomQuestion w room) 25
 
-abbrev pub nameAnswer : ℕ → ℕ → NameAnswer
+abbrev pub nameAnswer : ℕ → ℕ → TextAnswer
 nameAnswer w number =
     pick (eqb number 0)
     (record { outcome = Read; position = 0; length = length (nameText w) })
     (record { outcome = Refused number; position = 0; length = 0 })
 
 -- What the call promises by that number: its answer, and every byte. The text stands at the beginning, if at all.
-pub record NameAnswered (w number : ℕ) (bytes : List ℕ) (r : NameAnswer) (after : List ℕ) : Type 0 where
+pub record NameAnswered (w number : ℕ) (bytes : List ℕ) (r : TextAnswer) (after : List ℕ) : Type 0 where
   pub answer : r ≡ nameAnswer w number
   pub text : after ≡ pick (eqb number 0) (sets bytes 0 (nameText w)) bytes

@@ -2,13 +2,12 @@
 -- has the text, in which `[]` is the place of an index and which ends at a blank; from 46 and from 51 on the greatest values of
 -- its two indices, 0 where the text has no place for one; from 56 on the blocks that a leaf stands in.
 use Prim.Native.Nat.{ℕ, _+_, _*_, _%_}
-use Prim.Native.Char.{code}
-use Prim.Native.String.{String, [] as none, _∷_ as _then_}
+use Prim.Native.String.{String}
 use mathlib.Core.List.{List, [], _∷_}
 use mathlib.Core.Bool.{Bool, _&&_, _||_}
 use lib.Dec.{eqb, leb}
 use lib.ListN.{getD}
-use Rattle.text.specs.Text.{digit}
+use Rattle.text.specs.Text.{ascii, digit}
 
 unfoldable pub blocks : List String
 blocks =
@@ -144,11 +143,6 @@ leaves =
     ∷ "sizes_minus_one[]                             0581 0000 9  "
     ∷ "encoded[]                                     0007 0000 6  "
     ∷ []
-
--- the ASCII codes of a text
-unfoldable pub ascii : String → List ℕ
-ascii none = []
-ascii (c then s) = code c ∷ ascii s
 
 -- the row of a number, the empty one if the table has none
 unfoldable pub row : List String → ℕ → List ℕ

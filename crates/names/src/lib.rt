@@ -3,6 +3,7 @@ mod table;
 
 use rules::Field;
 use rules::Outcome;
+use text::TextAnswer;
 ghost use mathlib.Core.Path.{_≡_};
 ghost use Prim.Native.Nat.{_+_, _≤_};
 ghost use lib.ListN.{length};
@@ -11,13 +12,6 @@ ghost use Rattle.names.specs.NameText.{known, character, indexed, blockT
 
 // How many values a word has room for in each index.
 const INDICES: u64 = 8192;
-
-// What writing a name answers: the outcome with its number, the position 0, and the length of the text.
-pub struct NameAnswer {
-    pub outcome: Outcome,
-    pub position: usize,
-    pub length: usize,
-}
 
 // Whether a word is known: its leaf stands in its block, and all indices are in range.
 fn known(word: u64) -> bool
@@ -107,11 +101,11 @@ fn put_name(out: &mut [u8], at: usize, word: u64) -> usize
     put_leaf(out, leaf, word)
 }
 
-fn refused(number: u64) -> NameAnswer
+fn refused(number: u64) -> TextAnswer
     ensures { λ r. ⌜ r ≡ record { outcome = Outcome.Refused number; position = 0; length = 0 } ⌝ }
 {
     let outcome = Outcome::Refused(number);
-    NameAnswer {
+    TextAnswer {
         outcome,
         position: 0,
         length: 0,
@@ -119,7 +113,7 @@ fn refused(number: u64) -> NameAnswer
 }
 
 // Writes the text of a word, if the bytes are enough for it.
-fn write_text(word: u64, bytes: &mut [u8]) -> NameAnswer
+fn write_text(word: u64, bytes: &mut [u8]) -> TextAnswer
     ensures { λ r. ⌜ NameAnswered word (roomQuestion word (length (now (bytes .entry)))) (now (bytes .entry)) r (now (bytes .exit)) ⌝ }
 {
     let mut text = [0u8; 128];
@@ -129,7 +123,7 @@ fn write_text(word: u64, bytes: &mut [u8]) -> NameAnswer
     }
     text::put(bytes, 0, &text[..length]);
     let outcome = Outcome::Read;
-    NameAnswer {
+    TextAnswer {
         outcome,
         position: 0,
         length,
@@ -138,7 +132,7 @@ fn write_text(word: u64, bytes: &mut [u8]) -> NameAnswer
 
 // Writes the text of a name word to the beginning of the lent bytes, and gives its length. The bytes after it stay as they
 // are; if the word is unknown (25) or the bytes are too few (26), all of them do.
-pub fn name_text(word: u64, bytes: &mut [u8]) -> NameAnswer
+pub fn name_text(word: u64, bytes: &mut [u8]) -> TextAnswer
     ensures { λ r. ⌜ NameAnswered word (nameQuestion word (length (now (bytes .entry)))) (now (bytes .entry)) r (now (bytes .exit)) ⌝ }
 {
     if known(word) {

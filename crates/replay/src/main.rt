@@ -1,6 +1,6 @@
 // Replays recorded answers of the oracle: those of the Rust, and for name words, which it does not have, those of
 // docs/FIELDS.md. Standard input holds records; each is run, and its answer, its shapes, its field words and the words after
-// them are held to what the oracle gave, and so are a name's text and the bytes after it.
+// them are held to what the oracle gave, and so are the text of a name or of a show and the bytes after it.
 // `oracle/README.md` says how a record is laid out: a head of 34 bytes, the input, what is handed in, the shapes after the
 // call, and the words of the recorded fields or the text.
 use libc::STDIN_FILENO;
@@ -9,6 +9,7 @@ use position::PositionSyntax;
 use rules::Answer;
 use rules::Outcome;
 use rules::State;
+use text::TextAnswer;
 ghost use mathlib.Core.Path.{_≡_};
 ghost use Prim.Native.Nat.{_≤_};
 ghost use lib.ListN.{length};
@@ -396,8 +397,8 @@ fn run_metadata(head: &[u8; 34], bytes: &[u8], words: &mut [u64]) -> Ran {
     Ran { answer, same: true }
 }
 
-// A record of its kind: 0 operations, 1 scene, 2 update, 3 position, 4 validation, 5 metadata. A name, 6, is lent bytes and
-// no words, and run by `one_name`.
+// A record of its kind: 0 operations, 1 scene, 2 update, 3 position, 4 validation, 5 metadata. A name, 6, and a show, 7, are
+// lent bytes and no words: `one_name` and `one_show`.
 fn run_kind(head: &[u8; 34], bytes: &[u8], words: &mut [u64]) -> Ran {
     let kind = number(head, 0, 1);
     if kind == 1 {
@@ -469,11 +470,9 @@ fn wrong_bytes(bytes: &[u8], n: usize) -> usize {
     wrong
 }
 
-// Whether a name, whose record has the word in the place of the offset and the length of the text in that of the fields,
-// is answered as recorded in the bytes that it is lent.
-fn run_name(head: &[u8; 34], bytes: &mut [u8]) -> bool {
-    clear_bytes(bytes);
-    let a = names::name_text(number(head, 6, 8), bytes);
+// Whether a text, put into bytes that were blank, and its answer are as recorded. The record has the text's length in the
+// place of the fields.
+fn text_agrees(head: &[u8; 34], a: TextAnswer, bytes: &[u8]) -> bool {
     let wrong = wrong_bytes(bytes, number(head, 30, 4) as usize);
     let outcome = a.outcome;
     let answer = Answer {
@@ -482,6 +481,13 @@ fn run_name(head: &[u8; 34], bytes: &mut [u8]) -> bool {
         fields: a.length,
     };
     agrees(head, answer) && wrong == 0
+}
+
+// Whether a name, whose record has the word in the place of the offset, is answered as recorded in the bytes that it is lent.
+fn run_name(head: &[u8; 34], bytes: &mut [u8]) -> bool {
+    clear_bytes(bytes);
+    let a = names::name_text(number(head, 6, 8), bytes);
+    text_agrees(head, a, bytes)
 }
 
 // A name, if there are as many bytes as it is lent.
@@ -494,11 +500,34 @@ fn one_name(tally: Tally, head: &[u8; 34], bytes: &mut [u8]) -> Tally {
     tally.counted(right)
 }
 
+// The same of a show's text, whose bytes are an array.
+fn show_agrees(head: &[u8; 34], a: TextAnswer, text: &[u8; show::TEXT]) -> bool {
+    text_agrees(head, a, text)
+}
+
+// Whether the text of a show file is as recorded.
+fn run_show(head: &[u8; 34], file: &mut [u8]) -> bool {
+    let got = io::read_full(STDIN_FILENO, file);
+    let mut text = [BLANK; show::TEXT];
+    let a = show::show(file, &mut text);
+    show_agrees(head, a, &text) && got == file.len()
+}
+
+// A show, if there are as many bytes as its file has.
+fn one_show(tally: Tally, head: &[u8; 34], bytes: &mut [u8]) -> Tally {
+    let size = number(head, 14, 4) as usize;
+    if bytes.len() < size {
+        return tally.ended(false);
+    }
+    let right = run_show(head, &mut bytes[0..size]);
+    tally.counted(right)
+}
+
 // The greatest input and the most words of a record.
-fn input() -> [u8; 131072]
-    ensures { λ r. ⌜ 131072 ≡ length r ⌝ }
+fn input() -> [u8; 262144]
+    ensures { λ r. ⌜ 262144 ≡ length r ⌝ }
 {
-    [0; 131072]
+    [0; 262144]
 }
 
 fn buffer() -> [u64; 98304]
@@ -520,7 +549,10 @@ fn one(tally: Tally, bytes: &mut [u8], words: &mut [u64]) -> Tally {
     if kind == 6 {
         return one_name(tally, &head, bytes);
     }
-    if 6 < kind {
+    if kind == 7 {
+        return one_show(tally, &head, bytes);
+    }
+    if 7 < kind {
         return tally.ended(false);
     }
     if bytes.len() < size {

@@ -10,6 +10,7 @@ use lib.Dec.{ltb, leb, lit<}
 use lib.ListN.{length, length-append}
 use Rattle.io.specs.Digits.{digits, glyph, Fewest}
 use Rattle.rules.specs.Rule.{pick}
+use Rattle.rules.proofs.Pick.{by-pick}
 use Rattle.text.specs.Text.{digit, decimalWithin, decimal}
 
 -- 10 to the power of one more
@@ -84,6 +85,19 @@ short (suc f) k n h =
 pub decimal-short : (k n : ℕ) → n < 10 ^ suc k → length (decimal n) ≤ suc k
 unfolding decimal
 decimal-short k n h = short 20 k n h
+
+-- no number has more than 20
+most : (f n : ℕ) → length (decimalWithin f n) ≤ f
+unfolding decimalWithin
+most zero n = omega arith
+most (suc f) n =
+    let tens = decimalWithin f (n / 10) in
+    let fewer = by-pick (λ l. length l ≤ f) (ltb n 10) [] tens (λ _. omega arith) (λ _. most f (n / 10)) in
+    rw (length-append (pick (ltb n 10) [] tens) (digit (n % 10) ∷ [])) (omega arith)
+
+pub decimal-most : (n : ℕ) → length (decimal n) ≤ 20
+unfolding decimal
+decimal-most n = most 20 n
 
 -- the number is had back from its digits: no two numbers of 64 bits have the same
 valueAfter : ℕ → List ℕ → ℕ

@@ -1,10 +1,9 @@
 -- Texts put one after the other.
-use Prim.Native.Nat.{ℕ, suc, _+_, _≤_}
+use Prim.Native.Nat.{ℕ, _+_, _≤_}
 use mathlib.Core.Path.{_≡_, refl, sym, ap, _∙_}
 use mathlib.Core.List.{List, [], _∷_, _++_}
 use native.Mathlib.Omega.{arith}
 use native.Mathlib.Nat.{add-zero}
-use native.Mathlib.Numerals.{add-one}
 use lib.ListN.{length, length-append, set, take, drop}
 use lib.Seq.{sets, sets-eq, length-sets, take-at}
 use Rattle.rules.proofs.Words.{sets-append}
@@ -34,7 +33,10 @@ put-front {before} {text} p h =
     let e : 0 + length text ≡ length text = omega arith in
     rw (p .bytes, p .place, e, sets-eq text before 0 (omega arith)) (take-at text (drop (0 + length text) before) (length text) refl)
 
--- one byte
+-- no text, and one byte
+pub put-none : {before : List ℕ} {at : ℕ} → Put before at [] at before
+put-none {at = at} = record { place = sym (add-zero at); bytes = refl }
+
 pub put-byte : (before : List ℕ) (at c : ℕ) → Put before at (c ∷ []) (at + 1) (set before at c)
 put-byte before at c = record { place = refl; bytes = refl }
 
@@ -59,5 +61,15 @@ module _ {before : List ℕ} {at : ℕ} {whole now : List ℕ} {to : ℕ} where
   pub room-left : (a rest : List ℕ) → PutLeft before at whole now to (a ++ rest) → at + length whole ≤ length before → to + length a ≤ length now
   room-left a rest x h = let e = length-append a rest in let f = x .place in let g = x .long in omega arith
 
+  -- and for all that is left, with which the whole text is put
+  pub room-last : {rest : List ℕ} → PutLeft before at whole now to rest → at + length whole ≤ length before → to + length rest ≤ length now
+  room-last x h = let f = x .place in let g = x .long in omega arith
+
+  pub put-last : {rest : List ℕ} {r : ℕ} {l : List ℕ} → PutLeft before at whole now to rest → Put now to rest r l → Put before at whole r l
+  put-last x p = record { place = p .place ∙ x .place; bytes = p .bytes ∙ x .bytes }
+
   pub none-left : PutLeft before at whole now to [] → Put before at whole to now
   none-left x = record { place = let e = x .place in omega arith; bytes = x .bytes }
+
+-- texts put one after the other, and the room for each
+pub ruleset puts = (put-both, room-first, room-next)

@@ -1,5 +1,7 @@
--- A number as text, in decimal; and what every function promises that puts a text into lent bytes.
+-- Texts as ASCII codes, a number in decimal; and what every function promises that puts a text into lent bytes.
 use Prim.Native.Nat.{ℕ, zero, suc, _+_, _/_, _%_}
+use Prim.Native.Char.{code}
+use Prim.Native.String.{String, [] as none, _∷_ as _then_}
 use mathlib.Core.Path.{_≡_}
 use mathlib.Core.List.{List, [], _∷_, _++_}
 use lib.Dec.{ltb}
@@ -7,7 +9,12 @@ use lib.ListN.{length}
 use lib.Seq.{sets}
 use Rattle.rules.specs.Rule.{pick}
 
--- the ASCII code of a digit
+-- the ASCII codes of a text
+unfoldable pub ascii : String → List ℕ
+ascii none = []
+ascii (c then s) = code c ∷ ascii s
+
+-- that of a digit
 abbrev pub digit : ℕ → ℕ
 digit d = 48 + d
 

@@ -1,7 +1,16 @@
 // Text put into bytes that the caller lends, at a place where there is room for it.
+use rules::Outcome;
 ghost use Prim.Native.Nat.{_+_, _≤_};
+ghost use mathlib.Core.List.{_++_};
 ghost use lib.ListN.{length};
 ghost use Rattle.text.specs.Text.{decimal, Put};
+
+// What writing a text answers: the outcome with its number, the position 0, and the length of the text.
+pub struct TextAnswer {
+    pub outcome: Outcome,
+    pub position: usize,
+    pub length: usize,
+}
 
 // Puts a text, and gives the place after it.
 pub fn put(out: &mut [u8], at: usize, text: &[u8]) -> usize
@@ -20,4 +29,13 @@ pub fn put_decimal(out: &mut [u8], at: usize, n: u64) -> usize
     let mut digits = [0u8; 20];
     let k = io::decimal(n, &mut digits);
     put(out, at, &digits[..k])
+}
+
+// Puts a word and the number after it.
+pub fn put_number(out: &mut [u8], at: usize, word: &[u8], n: u64) -> usize
+    requires { ⌜ at + length (now word ++ decimal n) ≤ length (now out) ⌝ }
+    ensures { λ r. ⌜ Put (now (out .entry)) at (now (word .entry) ++ decimal n) r (now (out .exit)) ⌝ }
+{
+    let number = put(out, at, word);
+    put_decimal(out, number, n)
 }

@@ -235,6 +235,10 @@ module _ (ps : List ℕ) where
       by (first-out i d h g q) = absurd (omega arith)
       by (first-round i d h g q) = absurd (omega arith)
 
+  -- where ranks exist, those that the chains give are ranks
+  pub chain-ranks : HaveRanks ps → Ranks ps (rankOf ps)
+  chain-ranks w = has-ranks (λ i d. (w .0 i, ranks-has (w .1) (w .0 i) i d refl))
+
   pub refuses : verdict ps ≢ 0 → HaveRanks ps → ⊥
   refuses e w = by verdict-judged
     where

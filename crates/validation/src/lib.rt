@@ -12,7 +12,7 @@ ghost use Rattle.rules.specs.Reading.{reading};
 ghost use Rattle.rules.specs.Derived.{demand};
 ghost use Rattle.rules.specs.Answer.{answerOf};
 ghost use Rattle.rules.specs.Met.{MetAlone, Sound};
-ghost use Rattle.validation.specs.Rank.{chain, verdict, parents};
+ghost use Rattle.validation.specs.Rank.{chain, rankOf, verdict, parents};
 ghost use Rattle.validation.specs.Validation.{validateGraph, validationReading, noInput};
 
 // What a chain of parents does: it ends at 0, after as many positions as the rank says; it leaves the declared
@@ -63,8 +63,19 @@ fn judge(parents: &[usize]) -> u64
     0
 }
 
+// The rank of a position, 0 if it has none.
+pub fn rank(parents: &[usize], position: usize) -> usize
+    ensures { λ r. ⌜ r ≡ rankOf (now (parents .entry)) position ⌝ }
+{
+    match climb(parents, position) {
+        Chain::Ends(rank) => rank,
+        Chain::Leaves => 0,
+        Chain::Returns => 0,
+    }
+}
+
 // The parents alone.
-fn parents_of(shapes: [PositionSyntax; 63]) -> [usize; 63]
+pub fn parents_of(shapes: [PositionSyntax; 63]) -> [usize; 63]
     ensures { λ r. ⌜ r ≡ parents shapes ⌝ }
 {
     let mut out = [0usize; 63];

@@ -15,7 +15,7 @@ pub fn answer(word: u64, room: usize) -> Result<Answer, String> {
         Outcome::Read => Some(ascii(written)?),
         _ => None,
     };
-    Ok(Answer::of_name(verdict, name.length, text))
+    Ok(Answer::of_text("name", verdict, name.length, text))
 }
 
 /// The text of a recorded word.

@@ -75,6 +75,10 @@ impl<'r> Batch<'r> {
         self.requests.push(Request::Name { word, room });
     }
 
+    pub fn show(&mut self, bytes: Vec<u8>) {
+        self.requests.push(Request::Show { bytes });
+    }
+
     /// Mostly with all fields, else without.
     pub fn some_record(&mut self) -> Record {
         if self.rng.percent(60) {

@@ -13,6 +13,8 @@ mod renderer;
 mod sample;
 mod scripts;
 mod short;
+mod show_limits;
+mod shows;
 #[cfg(test)]
 mod tests;
 mod validation;
@@ -33,7 +35,7 @@ const SMALL: usize = 60;
 type Part = fn(&mut Batch<'_>);
 
 /// Asked once.
-const FIXED: [Part; 10] = [
+const FIXED: [Part; 11] = [
     short::short,
     boundaries::boundaries,
     corners::every_corner,
@@ -44,10 +46,11 @@ const FIXED: [Part; 10] = [
     labels::labels,
     words::every_template,
     words::every_pair,
+    shows::fixed,
 ];
 
 /// Asked as often as the scale says, each time with other choices.
-const RANDOM: [Part; 7] = [
+const RANDOM: [Part; 8] = [
     noise::noise,
     scenes_and_updates,
     each_kind,
@@ -55,14 +58,16 @@ const RANDOM: [Part; 7] = [
     validation::random,
     scripts::scripts,
     words::random,
+    shows::random,
 ];
 
 /// The sample that is stored in the repository.
-const SAMPLE: [Part; 4] = [
+const SAMPLE: [Part; 5] = [
     sample::scripts,
     sample::readings,
     sample::metadata,
     words::few,
+    shows::few,
 ];
 
 pub fn generate(seed: u64, scale: u64, out: &mut impl Write) -> io::Result<()> {

@@ -32,7 +32,12 @@ pub fn update(rng: &mut Rng) -> Good {
 
 pub fn update_of(rng: &mut Rng, shapes: Vec<Shape>) -> Good {
     let parents = some_parents(rng, shapes.len());
-    let bits = drafted(rng, |d| write_update(d, &shapes, &parents));
+    update_to(rng, shapes, &parents)
+}
+
+/// An update that hangs positions on these parents, as far as it changes parents at all.
+pub fn update_to(rng: &mut Rng, shapes: Vec<Shape>, parents: &[u64]) -> Good {
+    let bits = drafted(rng, |d| write_update(d, &shapes, parents));
     Good {
         question: Question::Update(shapes),
         bits,

@@ -105,7 +105,7 @@ fn short_metadata(rng: &mut Rng) -> Good {
 }
 
 /// Asks on until the requests from that one on take so many bytes.
-fn fill(batch: &mut Batch<'_>, from: usize, bytes: usize, ask: impl Fn(&mut Batch<'_>)) {
+pub fn fill(batch: &mut Batch<'_>, from: usize, bytes: usize, ask: impl Fn(&mut Batch<'_>)) {
     let mut size = stored_size(&batch.requests[from..]);
     while size < bytes {
         let before = batch.requests.len();

@@ -3,14 +3,15 @@ use super::batch::{Batch, Input};
 use super::draft::drafted;
 use super::positions::{EXTENSIONS, write_largest};
 use super::variants::Good;
-use super::{FIXED, Part, RANDOM, metadata, renderer, words};
-use crate::answer::Answer;
+use super::{FIXED, Part, RANDOM, metadata, renderer, show_limits, shows, words};
+use crate::answer::{Answer, Outcome};
 use crate::driver::answer;
 use crate::names;
 use crate::record::record;
 use crate::request::{Call, Question, Request, Shape};
 use crate::rng::Rng;
 use std::collections::BTreeSet;
+use std::sync::LazyLock;
 
 fn ask(good: &Good) -> Answer {
     ask_at(good, Input::from(good.bits.bytes().as_slice()))
@@ -59,7 +60,7 @@ fn corners() {
 fn offset(request: &Request) -> u64 {
     match request {
         Request::Call(call) => call.offset,
-        Request::Validation { .. } | Request::Name { .. } => 0,
+        Request::Validation { .. } | Request::Name { .. } | Request::Show { .. } => 0,
     }
 }
 
@@ -122,7 +123,7 @@ fn sample() -> Vec<Request> {
 fn sample_is_bounded() {
     let requests = sample();
     let size = |request| record(request).expect("an answer").len();
-    assert!((8_000..=10_000).contains(&requests.len()));
+    assert!((8_000..=11_000).contains(&requests.len()));
     assert!(requests.iter().map(size).sum::<usize>() <= 3 << 20);
 }
 
@@ -239,6 +240,8 @@ fn sample_has_the_examples() {
     for (shapes, hex) in [(before, "c100"), (before, "70"), (freed, "c100")] {
         assert!(asked(format!("update {shapes} {hex}")), "{shapes} {hex}");
     }
+    let show = "show 000400000012000000180000001a0000001b0a0080800080c10070c100";
+    assert!(sample().iter().any(|request| request.to_string() == show));
 }
 
 /// A request line without offset, recording and room; empty if it has another offset.
@@ -248,4 +251,110 @@ fn from_the_first_bit(request: &Request) -> String {
         [kind, "0", _, _, rest @ ..] => format!("{kind} {}", rest.join(" ")),
         _ => String::new(),
     }
+}
+
+/// The length of a show file, its number, and what is printed for it.
+struct Shown {
+    length: usize,
+    number: u8,
+    text: String,
+}
+
+fn shown(request: &Request) -> Option<Shown> {
+    let Request::Show { bytes } = request else {
+        return None;
+    };
+    let answer = answer(request);
+    Some(Shown {
+        length: bytes.len(),
+        number: answer.verdict.number,
+        text: answer.text.expect("what is printed"),
+    })
+}
+
+/// The shows that are generated, and those of the sample.
+static SHOWS: LazyLock<[Vec<Shown>; 2]> = LazyLock::new(|| {
+    let generated = [shows::fixed, shows::random].map(requests).concat();
+    [generated, sample()].map(|requests| requests.iter().filter_map(shown).collect())
+});
+
+#[test]
+fn fixed_shows() {
+    for file in show_limits::unsound() {
+        let number = crate::show::answer(&file).verdict.number;
+        assert_eq!(number, 24, "{file:x?}");
+    }
+    for file in show_limits::sound() {
+        let outcome = crate::show::answer(&file).verdict.outcome;
+        assert_eq!(outcome, Outcome::Read, "{file:x?}");
+    }
+    for (i, (file, number)) in show_limits::large().iter().enumerate() {
+        assert_eq!(crate::show::answer(file).verdict.number, *number, "{i}");
+    }
+}
+
+/// What is asked after them stays as it was before there were shows.
+#[test]
+fn fixed_shows_take_no_random_numbers() {
+    let rng = &mut Rng::new(1);
+    shows::fixed(&mut Batch::new(rng));
+    assert_eq!(rng.next(), Rng::new(1).next());
+}
+
+/// Of files that are too large the sample has one.
+#[test]
+fn shows_reach_every_number() {
+    for (shows, large) in SHOWS.iter().zip([5, 1]) {
+        let times = |number| shows.iter().filter(|show| show.number == number).count();
+        assert!(times(0) >= 5 && times(23) >= large && times(24) >= 5);
+        assert_eq!(times(0) + times(23) + times(24), shows.len());
+    }
+}
+
+#[test]
+fn shows_reach_every_line() {
+    for shows in &*SHOWS {
+        let lines: Vec<&str> = shows.iter().flat_map(|show| show.text.lines()).collect();
+        let ends = |scene| -> BTreeSet<&str> {
+            let ends = lines.iter().filter_map(|line| part_end(line));
+            let of_kind = ends.filter(|(part, _)| (*part == "0") == scene);
+            of_kind.map(|(_, end)| end).collect()
+        };
+        assert_eq!(
+            ends(true),
+            BTreeSet::from(["read", "3", "6", "7", "8", "9"])
+        );
+        assert_eq!(ends(false), BTreeSet::from(["read", "3", "7", "8", "9"]));
+        assert!(lines.iter().any(|line| line.ends_with(" rank 63")));
+    }
+}
+
+/// The part of a line, and that it was read or the number that it was refused by.
+fn part_end(line: &str) -> Option<(&str, &str)> {
+    match line.split(' ').collect::<Vec<_>>().as_slice() {
+        ["part", part, "read", ..] => Some((part, "read")),
+        ["part", part, _, number, ..] => Some((part, number)),
+        _ => None,
+    }
+}
+
+#[test]
+fn shows_reach_their_limits() {
+    for shows in &*SHOWS {
+        let any = |wanted: fn(&Shown) -> bool| shows.iter().any(wanted);
+        assert!(any(|show| show.number == 0 && show.length == 65_536));
+        assert!(any(|show| show.number == 23 && show.length == 65_537));
+        assert!(any(|show| {
+            show.text.contains("\npart 255 ") && show.text.contains("\nposition 63 ")
+        }));
+    }
+}
+
+/// Records of shows take no more than their share of the sample.
+#[test]
+fn stored_shows_are_bounded() {
+    let requests = sample();
+    let shows = requests.iter().filter(|request| request.kind() == "show");
+    let size = |request| record(request).expect("an answer").len();
+    assert!(shows.map(size).sum::<usize>() <= 450_000);
 }

@@ -74,7 +74,7 @@ impl Good {
     }
 
     /// A few bits turned over.
-    fn damaged(&self, rng: &mut Rng) -> Good {
+    pub fn damaged(&self, rng: &mut Rng) -> Good {
         let mut bits = self.bits.clone();
         for _ in 0..rng.pick(&[1, 1, 1, 2, 5]) {
             bits.flip(rng.below(bits.len() as u64) as usize);

@@ -7,7 +7,7 @@ use Rattle.replay.proofs.all.Tie as tie
 
 -- the buffers keep their lengths
 abbrev Inv-loop : tie.InvT-loop
-Inv-loop bytes₀ words₀ tally₀ counter₀ bytes words tally counter = (131072 ≡ length bytes) × (98304 ≡ length words) × (counter ≤ 4294967296)
+Inv-loop bytes₀ words₀ tally₀ counter₀ bytes words tally counter = (262144 ≡ length bytes) × (98304 ≡ length words) × (counter ≤ 4294967296)
 
 abbrev μ-loop : tie.MeasureT-loop
 μ-loop bytes₀ words₀ tally₀ counter₀ bytes words tally counter = 4294967296 - counter

@@ -1,6 +1,7 @@
 use mathlib.Core.Path.{_∙_}
 use native.Mathlib.Omega.{arith}
-use Rattle.names.specs.Table.{blocks, ascii}
+use Rattle.text.specs.Text.{ascii}
+use Rattle.names.specs.Table.{blocks}
 use Rattle.names.proofs.Rows.{rowBytes, cut-row, blocks-wide}
 use borrow.Author.Needs.{needs}
 use Rattle.names.proofs.table.block_row.Statement.{statement}

@@ -1,6 +1,7 @@
 use mathlib.Core.Path.{_∙_}
 use native.Mathlib.Omega.{arith}
-use Rattle.names.specs.Table.{leaves, ascii}
+use Rattle.text.specs.Text.{ascii}
+use Rattle.names.specs.Table.{leaves}
 use Rattle.names.proofs.Rows.{rowBytes, cut-row, leaves-wide}
 use borrow.Author.Needs.{needs}
 use Rattle.names.proofs.table.leaf_row.Statement.{statement}

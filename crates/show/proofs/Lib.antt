@@ -1,0 +1,5 @@
+pub mod Sound
+pub mod Answers
+pub mod Texts
+pub mod Room
+pub mod Claim

@@ -1,0 +1,159 @@
+-- The bytes that are lent for the text are enough for every file.
+use Prim.Native.Nat.{ℕ, zero, suc, _+_, _-_, _*_, _≤_}
+use Prim.Native.String.{String}
+use mathlib.Core.Path.{_≡_, refl, sym, ap, _∙_}
+use mathlib.Core.List.{List, [], _∷_, _++_}
+use mathlib.Core.Bool.{Bool, true, false}
+use native.Mathlib.Omega.{arith}
+use borrow.Author.Tests.{eqb-true, ne-eqb}
+use lib.Dec.{eqb}
+use lib.ListN.{length, length-append, length-map}
+use Rattle.rules.specs.declared.Answer.{Answer}
+use Rattle.rules.specs.declared.Outcome.{Outcome}
+use Rattle.rules.specs.declared.Outcome.the-variants.{Read, Refused, Stopped}
+use Rattle.rules.specs.Reading.{isRead}
+use Rattle.rules.specs.Answer.{answerOf}
+use Rattle.rules.proofs.Pick.{by-pick}
+use Rattle.position.specs.declared.PositionSyntax.{PositionSyntax}
+use Rattle.validation.specs.Rank.{parents, parentOf, rankOf}
+use Rattle.claims.specs.Book.{Packet, Given, bookScene, bookFirst, bookAnswers, bookShapes}
+use Rattle.claims.proofs.Book.{shapes-many, answers-many, first-many}
+use Rattle.text.specs.Text.{ascii, decimal, Put}
+use Rattle.text.proofs.Decimal.{decimal-most}
+use Rattle.text.proofs.Puts.{put-long}
+use Rattle.show.specs.Header.{Sound, partCount, isSound, fileQuestion}
+use Rattle.show.specs.Show.{line, told, partLine, partLines, positionLine, positionLines, allPositions, packet, packets, updatesText, restText, partsText, showText, ShowAnswered}
+use Rattle.show.proofs.Sound.{sound-if, question-met}
+
+-- a line is no longer than its words and 20 digits for each number
+widest : List (String × ℕ) → ℕ
+widest [] = 1
+widest (x ∷ xs) = length (ascii (x .0)) + 20 + widest xs
+
+line-most : (xs : List (String × ℕ)) → length (line xs) ≤ widest xs
+unfolding line widest
+line-most [] = omega arith
+line-most (x ∷ xs) =
+    let word = ascii (x .0) in
+    let a = length-append (word ++ decimal (x .1)) (line xs) in
+    let b = length-append word (decimal (x .1)) in
+    let c = decimal-most (x .1) in
+    let d = line-most xs in
+    omega arith
+
+-- no line is longer than 84 bytes
+told-most : (k : ℕ) (o : Outcome) (position fields : ℕ) → length (line (("part ", k) ∷ told o position fields)) ≤ 84
+unfolding widest ascii
+told-most k Read position fields = let most = line-most (("part ", k) ∷ told Read position fields) in omega arith
+told-most k (Refused n) position fields = let most = line-most (("part ", k) ∷ told (Refused n) position fields) in omega arith
+told-most k (Stopped n) position fields = let most = line-most (("part ", k) ∷ told (Stopped n) position fields) in omega arith
+
+part-most : (k : ℕ) (a : Answer) → length (partLine k a) ≤ 84
+unfolding partLine
+part-most k a = told-most k (a .outcome) (a .position) (a .fields)
+
+position-most : (i parent rank : ℕ) → length (positionLine i parent rank) ≤ 84
+unfolding positionLine widest ascii
+position-most i parent rank = let most = line-most (("position ", i) ∷ (" parent ", parent) ∷ (" rank ", rank) ∷ []) in omega arith
+
+-- the lines of parts, and of positions
+parts-most : (k : ℕ) (gs : List Given) → length (partLines k gs) ≤ 84 * length gs
+unfolding partLines
+parts-most k [] = omega arith
+parts-most k (g ∷ gs) =
+    let a = length-append (partLine k (g .answer)) (partLines (k + 1) gs) in
+    let b = part-most k (g .answer) in
+    let c = parts-most (k + 1) gs in
+    omega arith
+
+positions-most : (ps : List ℕ) (n i : ℕ) → length (positionLines ps n i) ≤ 84 * n
+unfolding positionLines
+positions-most ps zero i = omega arith
+positions-most ps (suc n) i =
+    let here = positionLine (i + 1) (parentOf ps (i + 1)) (rankOf ps (i + 1)) in
+    let a = length-append here (positionLines ps n (i + 1)) in
+    let b = position-most (i + 1) (parentOf ps (i + 1)) (rankOf ps (i + 1)) in
+    let c = positions-most ps n (i + 1) in
+    omega arith
+
+packets-many : (file : List ℕ) (n k : ℕ) → length (packets file n k) ≡ n
+unfolding packets
+packets-many file zero k = refl
+packets-many file (suc n) k = ap suc (packets-many file n (k + 1))
+
+updates-most : (k : ℕ) (ps : List Packet) (s : List PositionSyntax) → length (updatesText k ps s) ≤ 84 * length ps + 84 * length s
+unfolding updatesText
+updates-most k ps s =
+    let left = bookShapes ps s in
+    let a = length-append (partLines k (bookAnswers ps s)) (allPositions left) in
+    let b = parts-most k (bookAnswers ps s) in
+    let c = positions-most (parents left) (length (parents left)) 0 in
+    let d = length-map left (λ (sh : PositionSyntax). sh .parent) in
+    let e = shapes-many ps s in
+    let f = answers-many ps s in
+    omega arith
+
+rest-most : (file : List ℕ) → isSound file ≡ true → (scene : Answer) → length (restText file scene (bookFirst (packet file 0))) ≤ 84 * 255 + 84 * 63
+unfolding restText
+rest-most file t scene = by (isRead (scene .outcome)) refl
+  where
+    others : List Packet
+    others = packets file (partCount file - 1) 1
+
+    updates : length (updatesText 1 others (bookFirst (packet file 0))) ≤ 84 * 255 + 84 * 63
+    updates =
+        let a = updates-most 1 others (bookFirst (packet file 0)) in
+        let b = packets-many file (partCount file - 1) 1 in
+        let c = first-many (packet file 0) in
+        let d = sound-if file t .most in
+        omega arith
+
+    by : (b : Bool) → isRead (scene .outcome) ≡ b → length (restText file scene (bookFirst (packet file 0))) ≤ 84 * 255 + 84 * 63
+    by true e = rw e updates
+    by false e = rw e (omega arith)
+
+parts-text-most : (file : List ℕ) → isSound file ≡ true → length (partsText file) ≤ 32768
+unfolding partsText
+parts-text-most file t =
+    let scene = answerOf (bookScene (packet file 0)) in
+    let a = length-append (partLine 0 scene) (restText file scene (bookFirst (packet file 0))) in
+    let b = part-most 0 scene in
+    let c = rest-most file t scene in
+    omega arith
+
+refused-most : (n : ℕ) → length (line (("file refused ", n) ∷ [])) ≤ 32768
+unfolding widest ascii
+refused-most n = let most = line-most (("file refused ", n) ∷ []) in omega arith
+
+-- Whatever the file, its text fits into 32,768 bytes.
+pub show-enough : (file : List ℕ) → length (showText file) ≤ 32768
+unfolding showText
+show-enough file =
+    by-pick (λ l. length l ≤ 32768) (eqb (fileQuestion file) 0) (partsText file) _
+    (λ t. parts-text-most file (question-met file (eqb-true _ _ t)))
+    (λ _. refused-most (fileQuestion file))
+
+-- So there is room for the text of a file that is read, and of one that is refused, and what is put is the answer.
+module _ (file before : List ℕ) {n : ℕ} (e : n ≡ fileQuestion file) (long : length before ≡ 32768) where
+  pub room-read : n ≡ 0 → Sound file × (0 + length (partsText file) ≤ length before)
+  room-read z =
+      let t = question-met file (sym e ∙ z) in
+      let most = parts-text-most file t in
+      (sound-if file t, omega arith)
+
+  pub answered-read : n ≡ 0 → {to : ℕ} {after : List ℕ} → Put before 0 (partsText file) to after →
+      ShowAnswered file before (record { outcome = Read; position = 0; length = to }) after
+  unfolding showText
+  answered-read z p =
+      let met : fileQuestion file ≡ 0 = sym e ∙ z in
+      record { outcome = rw met; position = refl; text = rw met p; room = omega (arith, p .place, put-long p, room-read z .1) }
+
+  pub room-refused : 0 + length (line (("file refused ", n) ∷ [])) ≤ length before
+  room-refused = let most = refused-most n in omega arith
+
+  pub answered-refused : (n ≡ 0 → ⊥) → {to : ℕ} {after : List ℕ} → Put before 0 (line (("file refused ", n) ∷ [])) to after →
+      ShowAnswered file before (record { outcome = Refused n; position = 0; length = to }) after
+  unfolding showText
+  answered-refused z p =
+      let not-met = ne-eqb n 0 z in
+      record { outcome = rw (← e, not-met); position = refl; text = rw (← e, not-met) p; room = omega (arith, p .place, put-long p, room-refused) }

@@ -1,0 +1,84 @@
+-- What `scene-show` prints: a line for each part, and then one for each position.
+use Prim.Native.Nat.{ℕ, zero, suc, _+_, _-_, _≤_}
+use Prim.Native.String.{String}
+use mathlib.Core.Path.{_≡_}
+use mathlib.Core.List.{List, [], _∷_, _++_}
+use mathlib.Core.Bool.{false}
+use lib.Dec.{eqb}
+use lib.ListN.{length}
+use Rattle.rules.specs.declared.Answer.{Answer}
+use Rattle.rules.specs.declared.Outcome.{Outcome}
+use Rattle.rules.specs.declared.Outcome.the-variants.{Read, Refused, Stopped}
+use Rattle.rules.specs.Rule.{pick}
+use Rattle.rules.specs.Reading.{isRead}
+use Rattle.rules.specs.Answer.{answerOf}
+use Rattle.position.specs.declared.PositionSyntax.{PositionSyntax}
+use Rattle.validation.specs.Rank.{parents, parentOf, rankOf}
+use Rattle.claims.specs.Book.{Packet, Given, bookScene, bookFirst, bookAnswers, bookShapes}
+use Rattle.text.specs.declared.TextAnswer.{TextAnswer}
+use Rattle.text.specs.Text.{ascii, decimal, Put}
+use Rattle.show.specs.Header.{partCount, partOf, fileQuestion}
+
+-- a line: words, each with the number after it
+unfoldable pub line : List (String × ℕ) → List ℕ
+line [] = 10 ∷ []
+line (x ∷ xs) = (ascii (x .0) ++ decimal (x .1)) ++ line xs
+
+-- what is told of a part: how it ended
+abbrev pub told : Outcome → ℕ → ℕ → List (String × ℕ)
+told Read position fields = (" read ", position) ∷ (" fields ", fields) ∷ []
+told (Refused n) position fields = (" refused ", n) ∷ (" at ", position) ∷ []
+told (Stopped n) position fields = (" stopped ", n) ∷ (" at ", position) ∷ []
+
+unfoldable pub partLine : ℕ → Answer → List ℕ
+partLine k a = line (("part ", k) ∷ told (a .outcome) (a .position) (a .fields))
+
+-- the lines of the parts from k on, and of the n positions after i
+unfoldable pub partLines : ℕ → List Given → List ℕ
+partLines k [] = []
+partLines k (g ∷ gs) = partLine k (g .answer) ++ partLines (k + 1) gs
+
+unfoldable pub positionLine : ℕ → ℕ → ℕ → List ℕ
+positionLine i parent rank = line (("position ", i) ∷ (" parent ", parent) ∷ (" rank ", rank) ∷ [])
+
+unfoldable pub positionLines : List ℕ → ℕ → ℕ → List ℕ
+positionLines ps zero i = []
+positionLines ps (suc n) i = positionLine (i + 1) (parentOf ps (i + 1)) (rankOf ps (i + 1)) ++ positionLines ps n (i + 1)
+
+abbrev pub allPositions : List PositionSyntax → List ℕ
+allPositions shapes = positionLines (parents shapes) (length (parents shapes)) 0
+
+-- A part as the book is fed it: from bit 0, recording off.
+abbrev pub packet : List ℕ → ℕ → Packet
+packet file k = record { bytes = partOf file k; offset = 0; recording = false; room = 0 }
+
+-- the n parts from k on
+unfoldable pub packets : List ℕ → ℕ → ℕ → List Packet
+packets file zero k = []
+packets file (suc n) k = packet file k ∷ packets file n (k + 1)
+
+-- packets on the shapes s, the first of them being part k: their lines, and those of the positions after them
+unfoldable pub updatesText : ℕ → List Packet → List PositionSyntax → List ℕ
+updatesText k ps s = partLines k (bookAnswers ps s) ++ allPositions (bookShapes ps s)
+
+-- Part 0 is a scene, the others are updates. If part 0 is refused its line is the only one.
+unfoldable pub restText : List ℕ → Answer → List PositionSyntax → List ℕ
+restText file scene s = pick (isRead (scene .outcome)) (updatesText 1 (packets file (partCount file - 1) 1) s) []
+
+unfoldable pub partsText : List ℕ → List ℕ
+partsText file =
+    let scene = answerOf (bookScene (packet file 0)) in
+    partLine 0 scene ++ restText file scene (bookFirst (packet file 0))
+
+unfoldable pub showText : List ℕ → List ℕ
+showText file = pick (eqb (fileQuestion file) 0) (partsText file) (line (("file refused ", fileQuestion file) ∷ []))
+
+abbrev pub fileOutcome : ℕ → Outcome
+fileOutcome number = pick (eqb number 0) Read (Refused number)
+
+-- What the call promises: its answer, and every byte. The text stands at the beginning, for which there is room.
+pub record ShowAnswered (file before : List ℕ) (r : TextAnswer) (after : List ℕ) : Type 0 where
+  pub outcome : r .outcome ≡ fileOutcome (fileQuestion file)
+  pub position : r .position ≡ 0
+  pub text : Put before 0 (showText file) (r .length) after
+  pub room : r .length ≤ length after

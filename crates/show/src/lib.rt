@@ -1,0 +1,155 @@
+// A show file, and the text that `scene-show` prints of it.
+mod header;
+mod lines;
+
+use position::PositionSyntax;
+use rules::Outcome;
+use scene::SceneAnswer;
+use text::TextAnswer;
+use update::UpdateAnswer;
+ghost use mathlib.Core.List.{[]};
+ghost use mathlib.Core.Bool.{false};
+ghost use Prim.Native.Nat.{_+_, _-_, _≤_, _<_};
+ghost use lib.ListN.{length, take};
+ghost use Rattle.scene.specs.Scene.{SceneAnswered};
+ghost use Rattle.update.specs.Update.{UpdateAnswered};
+ghost use Rattle.claims.specs.Book.{bookScene, bookReading};
+ghost use Rattle.text.specs.Text.{Put};
+ghost use Rattle.show.specs.Header.{Sound, partCount};
+ghost use Rattle.show.specs.Show.{positionLines, allPositions, packet, packets, updatesText, restText, partsText, ShowAnswered};
+
+// The bytes that are lent for the text: enough for every file.
+pub const TEXT: usize = 32768;
+
+// Part 0, a scene.
+fn scene_part(file: &[u8]) -> SceneAnswer
+    requires { ⌜ Sound (now file) ⌝ }
+    ensures { λ r. ⌜ SceneAnswered (bookScene (packet (now (file .entry)) 0)) false [] r [] ⌝ }
+{
+    let start = header::offset_of(file, 0);
+    let end = header::end_of(file, 0);
+    let mut words = [0u64; 0];
+    scene::read_scene(&file[start..end], 0, false, &mut words)
+}
+
+// Part `k`, an update.
+fn update_part(file: &[u8], k: usize, shapes: [PositionSyntax; 63], count: usize) -> UpdateAnswer
+    requires { ⌜ Sound (now file) ⌝ }
+    requires { ⌜ k < partCount (now file) ⌝ }
+    requires { ⌜ count ≤ 63 ⌝ }
+    ensures { λ r. ⌜ UpdateAnswered (bookReading (packet (now (file .entry)) k) (take count shapes)) count shapes false [] r [] ⌝ }
+{
+    let start = header::offset_of(file, k);
+    let end = header::end_of(file, k);
+    let mut words = [0u64; 0];
+    update::graph_update(&file[start..end], 0, false, &mut words, shapes, count)
+}
+
+// Puts a line for each position.
+fn put_positions(out: &mut [u8], at: usize, parents: &[usize]) -> usize
+    requires { ⌜ at + length (positionLines (now parents) (length (now parents)) 0) ≤ length (now out) ⌝ }
+    ensures { λ r. ⌜ Put (now (out .entry)) at (positionLines (now (parents .entry)) (length (now (parents .entry))) 0) r (now (out .exit)) ⌝ }
+{
+    let mut to = at;
+    let mut i = 0;
+    while i < parents.len() {
+        let parent = parents[i];
+        let position = i + 1;
+        let rank = validation::rank(parents, position);
+        to = lines::put_position(out, to, position, parent, rank);
+        i = position;
+    }
+    to
+}
+
+// The same of the first `count` shapes.
+fn put_shapes(out: &mut [u8], at: usize, shapes: [PositionSyntax; 63], count: usize) -> usize
+    requires { ⌜ count ≤ 63 ⌝ }
+    requires { ⌜ at + length (allPositions (take count shapes)) ≤ length (now out) ⌝ }
+    ensures { λ r. ⌜ Put (now (out .entry)) at (allPositions (take count shapes)) r (now (out .exit)) ⌝ }
+{
+    let all = validation::parents_of(shapes);
+    put_positions(out, at, &all[..count])
+}
+
+// Puts a line for each update, every one of which finds the shapes that the one before left, and then the positions.
+fn put_updates(
+    file: &[u8],
+    out: &mut [u8],
+    at: usize,
+    shapes: [PositionSyntax; 63],
+    count: usize,
+) -> usize
+    requires { ⌜ Sound (now file) ⌝ }
+    requires { ⌜ count ≤ 63 ⌝ }
+    requires { ⌜ at + length (updatesText 1 (packets (now file) (partCount (now file) - 1) 1) (take count shapes)) ≤ length (now out) ⌝ }
+    ensures { λ r. ⌜ Put (now (out .entry)) at (updatesText 1 (packets (now (file .entry)) (partCount (now (file .entry)) - 1) 1) (take count shapes)) r (now (out .exit)) ⌝ }
+{
+    let parts = header::part_count(file);
+    let mut next = shapes;
+    let mut to = at;
+    let mut k = 1;
+    while k < parts {
+        let a = update_part(file, k, next, count);
+        let answer = a.answer;
+        let left = a.shapes;
+        to = lines::put_part(out, to, k, answer);
+        next = left;
+        k += 1;
+    }
+    put_shapes(out, to, next, count)
+}
+
+// Puts what follows the line of part 0: nothing unless the scene was read.
+fn put_rest(file: &[u8], out: &mut [u8], at: usize, scene: SceneAnswer) -> usize
+    requires { ⌜ Sound (now file) ⌝ }
+    requires { ⌜ scene .count ≤ 63 ⌝ }
+    requires { ⌜ at + length (restText (now file) (scene .answer) (take (scene .count) (scene .shapes))) ≤ length (now out) ⌝ }
+    ensures { λ r. ⌜ Put (now (out .entry)) at (restText (now (file .entry)) (scene .answer) (take (scene .count) (scene .shapes))) r (now (out .exit)) ⌝ }
+{
+    let answer = scene.answer;
+    let outcome = answer.outcome;
+    match outcome {
+        Outcome::Read => {
+            let shapes = scene.shapes;
+            put_updates(file, out, at, shapes, scene.count)
+        }
+        Outcome::Refused(_) => at,
+        Outcome::Stopped(_) => at,
+    }
+}
+
+// Puts a line for part 0, and what follows it.
+fn put_parts(file: &[u8], out: &mut [u8]) -> usize
+    requires { ⌜ Sound (now file) ⌝ }
+    requires { ⌜ 0 + length (partsText (now file)) ≤ length (now out) ⌝ }
+    ensures { λ r. ⌜ Put (now (out .entry)) 0 (partsText (now (file .entry))) r (now (out .exit)) ⌝ }
+{
+    let a = scene_part(file);
+    let answer = a.answer;
+    let next = lines::put_part(out, 0, 0, answer);
+    put_rest(file, out, next, a)
+}
+
+// The text of a show file, put at the beginning of the lent bytes, and its length. The bytes after it stay as they are.
+pub fn show(file: &[u8], text: &mut [u8; TEXT]) -> TextAnswer
+    ensures { λ r. ⌜ ShowAnswered (now (file .entry)) (now (text .entry)) r (now (text .exit)) ⌝ }
+{
+    let number = header::file_question(file);
+    if number == 0 {
+        let length = put_parts(file, text);
+        let outcome = Outcome::Read;
+        return TextAnswer {
+            outcome,
+            position: 0,
+            length,
+        };
+    }
+    let length = lines::put_refused(text, 0, number);
+    let outcome = Outcome::Refused(number);
+    TextAnswer {
+        outcome,
+        position: 0,
+        length,
+    }
+}
