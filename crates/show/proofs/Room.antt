@@ -21,7 +21,7 @@ use Rattle.claims.proofs.Book.{shapes-many, answers-many, first-many}
 use Rattle.text.specs.Text.{ascii, decimal, Put}
 use Rattle.text.proofs.Decimal.{decimal-most}
 use Rattle.text.proofs.Puts.{put-long}
-use Rattle.show.specs.Header.{Sound, partCount, isSound, fileQuestion}
+use Rattle.show.specs.Header.{HeaderSound, partCount, isSound, fileQuestion}
 use Rattle.show.specs.Show.{line, told, partLine, partLines, positionLine, positionLines, allPositions, packet, packets, updatesText, restText, partsText, showText, ShowAnswered}
 use Rattle.show.proofs.Sound.{sound-if, question-met}
 
@@ -135,7 +135,7 @@ show-enough file =
 
 -- So there is room for the text of a file that is read, and of one that is refused, and what is put is the answer.
 module _ (file before : List ℕ) {n : ℕ} (e : n ≡ fileQuestion file) (long : length before ≡ 32768) where
-  pub room-read : n ≡ 0 → Sound file × (0 + length (partsText file) ≤ length before)
+  pub room-read : n ≡ 0 → HeaderSound file × (0 + length (partsText file) ≤ length before)
   room-read z =
       let t = question-met file (sym e ∙ z) in
       let most = parts-text-most file t in

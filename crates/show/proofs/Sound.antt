@@ -11,7 +11,7 @@ use lib.ListN.{length, take, drop}
 use Rattle.rules.specs.Rule.{pick}
 use Rattle.rules.proofs.Pick.{by-pick}
 use Rattle.rules.proofs.Laws.{both}
-use Rattle.show.specs.Header.{partCount, offsetOf, headerLength, Sound, endOf, partOf, inOrder, isSound, fileQuestion}
+use Rattle.show.specs.Header.{partCount, offsetOf, headerLength, HeaderSound, endOf, partOf, inOrder, isSound, fileQuestion}
 
 module _ (file : List ℕ) where
   -- where part k ends, if another follows, and if none does
@@ -24,7 +24,7 @@ module _ (file : List ℕ) where
   end-last k h = rw (le-ltb (k + 1) (partCount file) h)
 
   -- Part k begins before it ends, and ends within the file: it is a part of the file's bytes.
-  module _ (s : Sound file) (k : ℕ) (h : k < partCount file) {start end : ℕ} (p : start ≡ offsetOf file k) (q : end ≡ endOf file k) where
+  module _ (s : HeaderSound file) (k : ℕ) (h : k < partCount file) {start end : ℕ} (p : start ≡ offsetOf file k) (q : end ≡ endOf file k) where
     pub part-start : start ≤ end
     unfolding endOf
     part-start =
@@ -44,6 +44,10 @@ module _ (file : List ℕ) where
     pub part-is : take (end - start) (drop start file) ≡ partOf file k
     unfolding partOf
     part-is = rw (p, q)
+
+  -- all of the header is there
+  pub header-whole : HeaderSound file → headerLength file ≤ length file
+  header-whole s = rw (← s .first) (s .inside 0 (s .some))
 
   -- what the test of n parts from k on says, and what makes it true
   each-in-order : (n k : ℕ) → inOrder file n k ≡ true → (j : ℕ) → k ≤ j → j < k + n → offsetOf file j ≤ endOf file j
@@ -118,7 +122,7 @@ module _ (file : List ℕ) where
     within zero k h = rw (← end-last k (omega arith)) (order k (omega arith))
     within (suc n) k h = let next = within n (k + 1) (omega arith) in let here = rises k (omega arith) in omega arith
 
-    pub sound-if : Sound file
+    pub sound-if : HeaderSound file
     sound-if = record {
       some = tests t .0;
       most = tests t .1;
@@ -127,13 +131,13 @@ module _ (file : List ℕ) where
       inside = λ k h. within (partCount file - (k + 1)) k (omega arith);
     }
 
-  only-if : Sound file → isSound file ≡ true
+  only-if : HeaderSound file → isSound file ≡ true
   unfolding isSound
   only-if s =
       let order = all-in-order (partCount file) 0 (λ j from to. part-start s j (omega arith) refl refl) in
       rw (le-leb _ _ (s .some), le-leb _ _ (s .most), eq-eqb _ _ (s .first)) order
 
-  pub sound : (isSound file ≡ true) ↔ Sound file
+  pub sound : (isSound file ≡ true) ↔ HeaderSound file
   sound = (sound-if, only-if)
 
   -- Questions 23 and 24: asked in this order, and met only by a file of at most 65,536 bytes with a sound header.

@@ -20,7 +20,7 @@ headerLength file = 2 + 4 * partCount file
 
 -- The header is sound: 1 to 256 parts; the first offset is the header's length; offsets never fall and none passes the
 -- file's end. So all of the header is there.
-pub record Sound (file : List ℕ) : Type 0 where
+pub record HeaderSound (file : List ℕ) : Type 0 where
   pub some : 1 ≤ partCount file
   pub most : partCount file ≤ 256
   pub first : offsetOf file 0 ≡ headerLength file

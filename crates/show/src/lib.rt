@@ -15,7 +15,7 @@ ghost use Rattle.scene.specs.Scene.{SceneAnswered};
 ghost use Rattle.update.specs.Update.{UpdateAnswered};
 ghost use Rattle.claims.specs.Book.{bookScene, bookReading};
 ghost use Rattle.text.specs.Text.{Put};
-ghost use Rattle.show.specs.Header.{Sound, partCount};
+ghost use Rattle.show.specs.Header.{HeaderSound, partCount};
 ghost use Rattle.show.specs.Show.{positionLines, allPositions, packet, packets, updatesText, restText, partsText, ShowAnswered};
 
 // The bytes that are lent for the text: enough for every file.
@@ -23,7 +23,7 @@ pub const TEXT: usize = 32768;
 
 // Part 0, a scene.
 fn scene_part(file: &[u8]) -> SceneAnswer
-    requires { ⌜ Sound (now file) ⌝ }
+    requires { ⌜ HeaderSound (now file) ⌝ }
     ensures { λ r. ⌜ SceneAnswered (bookScene (packet (now (file .entry)) 0)) false [] r [] ⌝ }
 {
     let start = header::offset_of(file, 0);
@@ -34,7 +34,7 @@ fn scene_part(file: &[u8]) -> SceneAnswer
 
 // Part `k`, an update.
 fn update_part(file: &[u8], k: usize, shapes: [PositionSyntax; 63], count: usize) -> UpdateAnswer
-    requires { ⌜ Sound (now file) ⌝ }
+    requires { ⌜ HeaderSound (now file) ⌝ }
     requires { ⌜ k < partCount (now file) ⌝ }
     requires { ⌜ count ≤ 63 ⌝ }
     ensures { λ r. ⌜ UpdateAnswered (bookReading (packet (now (file .entry)) k) (take count shapes)) count shapes false [] r [] ⌝ }
@@ -80,7 +80,7 @@ fn put_updates(
     shapes: [PositionSyntax; 63],
     count: usize,
 ) -> usize
-    requires { ⌜ Sound (now file) ⌝ }
+    requires { ⌜ HeaderSound (now file) ⌝ }
     requires { ⌜ count ≤ 63 ⌝ }
     requires { ⌜ at + length (updatesText 1 (packets (now file) (partCount (now file) - 1) 1) (take count shapes)) ≤ length (now out) ⌝ }
     ensures { λ r. ⌜ Put (now (out .entry)) at (updatesText 1 (packets (now (file .entry)) (partCount (now (file .entry)) - 1) 1) (take count shapes)) r (now (out .exit)) ⌝ }
@@ -102,7 +102,7 @@ fn put_updates(
 
 // Puts what follows the line of part 0: nothing unless the scene was read.
 fn put_rest(file: &[u8], out: &mut [u8], at: usize, scene: SceneAnswer) -> usize
-    requires { ⌜ Sound (now file) ⌝ }
+    requires { ⌜ HeaderSound (now file) ⌝ }
     requires { ⌜ scene .count ≤ 63 ⌝ }
     requires { ⌜ at + length (restText (now file) (scene .answer) (take (scene .count) (scene .shapes))) ≤ length (now out) ⌝ }
     ensures { λ r. ⌜ Put (now (out .entry)) at (restText (now (file .entry)) (scene .answer) (take (scene .count) (scene .shapes))) r (now (out .exit)) ⌝ }
@@ -121,7 +121,7 @@ fn put_rest(file: &[u8], out: &mut [u8], at: usize, scene: SceneAnswer) -> usize
 
 // Puts a line for part 0, and what follows it.
 fn put_parts(file: &[u8], out: &mut [u8]) -> usize
-    requires { ⌜ Sound (now file) ⌝ }
+    requires { ⌜ HeaderSound (now file) ⌝ }
     requires { ⌜ 0 + length (partsText (now file)) ≤ length (now out) ⌝ }
     ensures { λ r. ⌜ Put (now (out .entry)) 0 (partsText (now (file .entry))) r (now (out .exit)) ⌝ }
 {
