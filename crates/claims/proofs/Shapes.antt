@@ -69,6 +69,7 @@ any : {A : Type 0} (x : Result A) → IfRead (λ _. Unit {0}) x
 any (read a) = tt
 any (ended x) = tt
 
+-- less said of it
 if-less : {A : Type 0} (P Q : A → Type 0) (x : Result A) → IfRead P x → ((a : A) → P a → Q a) → IfRead Q x
 if-less P Q (read a) h k = k a h
 if-less P Q (ended x) h k = tt
@@ -89,9 +90,9 @@ if-last : {A B : Type 0} (i : Input) (Q : B → Type 0) (r : Rule A) (f : A → 
 if-last i Q r f h = if-then i (λ _. Unit {0}) Q r f (λ p e n. any (reading i r p e n .result)) (λ a _. h a)
 
 -- a number that was read by `drc_count` is below what its bits can hold
-take-least : (i : Input) (name w p e n : ℕ) → IfRead (λ v. v < 2 ^ w) (reading i (take name w) p e n .result)
+take-below : (i : Input) (name w p e n : ℕ) → IfRead (λ v. v < 2 ^ w) (reading i (take name w) p e n .result)
 unfolding take position bits field _>>=_ reading
-take-least i name w p e n =
+take-below i name w p e n =
     let P : Reading ℕ → Type 0 = λ x. IfRead (λ v. v < 2 ^ w) (x .result) in
     by-pick P (ltb (e - p) w) _ _ (λ _. tt)
     (λ _.
@@ -99,10 +100,10 @@ take-least i name w p e n =
     (λ _. by-pick P (hasRoom i n) _ _ (λ _. bits-lt (i .bytes) p w) (λ _. tt))
     (λ _. tt))
 
-drc-count-least : (i : Input) (name w least p e n : ℕ) → IfRead (λ v. v < 2 ^ w) (reading i (drcCount name w least) p e n .result)
+drc-count-below : (i : Input) (name w least p e n : ℕ) → IfRead (λ v. v < 2 ^ w) (reading i (drcCount name w least) p e n .result)
 unfolding drcCount count reading
-drc-count-least i name w least =
-    if-then i (λ v. v < 2 ^ w) _ (take name w) _ (take-least i name w)
+drc-count-below i name w least =
+    if-then i (λ v. v < 2 ^ w) _ (take name w) _ (take-below i name w)
     (λ v h. if-last i _ remaining _ (λ left. if-last i _ (demand (leb v 4096 && leb (v * least) left) (refused 6)) _ (λ _ p e n. h)))
 
 -- a loop over a list gives as many values as it was handed, and an update as many shapes
@@ -114,6 +115,7 @@ each-many i f k (x ∷ xs) =
     if-last i _ (f k x) _
     (λ y. if-then i (λ ys. length ys ≡ length xs) _ (each f (k + 1) xs) _ (each-many i f (k + 1) xs) (λ ys q p e n. ap suc q))
 
+-- a scene gives at most 63 shapes
 abbrev Fits : List PositionSyntax → Type 0
 Fits l = length l ≤ 63
 
@@ -127,7 +129,7 @@ module _ (i : Input) (offset : ℕ) where
       if-last i _ (entry (length (i .bytes)) 0 offset) _
       (λ _.
       if-then i Fits _ sceneFields ifValid
-      (if-then i (λ n. n < 2 ^ 6) _ (drcCount _ 6 18) _ (drc-count-least i _ 6 18)
+      (if-then i (λ n. n < 2 ^ 6) _ (drcCount _ 6 18) _ (drc-count-below i _ 6 18)
       (λ n h p e k. if-less _ Fits (reading i (positions true (replicate n default)) p e k .result) (each-many i (positionAt true) 0 (replicate n default) p e k) (few n h)))
       (λ l q. if-last i _ (validateGraph l) _ (λ _ p e n. q)))
       0 0 0
