@@ -43,21 +43,6 @@ module _ (p : Packet) (s : List PositionSyntax) where
   kept-many : length (kept (bookReading p s) s) ≡ length s
   kept-many = kept-by (λ l. length l ≡ length s) s (bookReading p s .result) refl (update-many (input p) (p .offset) (length s) s)
 
--- and by a list of them
-pub shapes-many : (ps : List Packet) (s : List PositionSyntax) → length (bookShapes ps s) ≡ length s
-unfolding bookShapes
-shapes-many [] s = refl
-shapes-many (p ∷ ps) s = shapes-many ps (kept (bookReading p s) s) ∙ kept-many p s
-
-pub answers-many : (ps : List Packet) (s : List PositionSyntax) → length (bookAnswers ps s) ≡ length ps
-unfolding bookAnswers
-answers-many [] s = refl
-answers-many (p ∷ ps) s = ap suc (answers-many ps (kept (bookReading p s) s))
-
--- a scene has at most 63 positions
-pub first-many : (p : Packet) → length (bookFirst p) ≤ 63
-first-many p = kept-by (λ l. length l ≤ 63) [] (bookScene p .result) (omega arith) (scene-many (input p) (p .offset))
-
 -- the book on the calls `cs` alone gives their answers and the shapes t
 record Same (s : List PositionSyntax) (cs : List Call) (t : List PositionSyntax) : Type 0 where
   same-answers : answers cs ≡ bookAnswers (packets cs) s
@@ -140,3 +125,18 @@ module _ {ℓ} {Step : List PositionSyntax → Call → List PositionSyntax → 
           other .same-shapes ∙ ap (λ (ps : List Packet). bookShapes ps s) e ∙ sym (alone .same-shapes),
         );
       }
+
+-- the book has as many shapes after a list of packets as before, and as many answers as packets
+pub shapes-many : (ps : List Packet) (s : List PositionSyntax) → length (bookShapes ps s) ≡ length s
+unfolding bookShapes
+shapes-many [] s = refl
+shapes-many (p ∷ ps) s = shapes-many ps (kept (bookReading p s) s) ∙ kept-many p s
+
+pub answers-many : (ps : List Packet) (s : List PositionSyntax) → length (bookAnswers ps s) ≡ length ps
+unfolding bookAnswers
+answers-many [] s = refl
+answers-many (p ∷ ps) s = ap suc (answers-many ps (kept (bookReading p s) s))
+
+-- a scene has at most 63 positions
+pub first-many : (p : Packet) → length (bookFirst p) ≤ 63
+first-many p = kept-by (λ l. length l ≤ 63) [] (bookScene p .result) (omega arith) (scene-many (input p) (p .offset))
