@@ -34,24 +34,24 @@ expect 0 "" "$work/23" < <(head -c 100000000 /dev/zero)
 expect 1 "scene-show: standard input: Is a directory" "$work/nothing" <docs
 expect 1 "scene-show: standard input: Bad file descriptor" "$work/nothing" <&-
 
-# A text that cannot be written is reported, and the status is not 0.
+# Where nothing can be printed, that is reported, and this is the status.
 failed() {
-  [ "$1" != 0 ] && grep -q "$2" "$work/report" && return
-  echo "scene-show: a failed write has status $1 and is reported as:"
+  [ "$1" = "$2" ] && [ "$(cat "$work/report")" = "$3" ] && return
+  echo "scene-show: status $1 where $2 was expected, and the report:"
   cat "$work/report"
   exit 1
 }
 status=0
 bin/scene-show <docs/worked.show 2>"$work/report" >/dev/full || status=$?
-failed "$status" "scene-show: standard output: No space left on device"
+failed "$status" 1 "scene-show: standard output: No space left on device"
 status=0
 bin/scene-show <docs/worked.show 2>"$work/report" >&- || status=$?
-failed "$status" "Bad file descriptor"
+failed "$status" 1 "scene-show: standard output: closed"
 { sleep 0.2 && bin/scene-show <docs/worked.show 2>"$work/report" || echo $? >"$work/status"; } | :
-failed "$(cat "$work/status")" "scene-show: standard output: Broken pipe"
+failed "$(cat "$work/status")" 1 "scene-show: standard output: Broken pipe"
 status=0
 bin/scene-show docs/worked.show 2>"$work/report" || status=$?
-failed "$status" "usage: scene-show < FILE"
+failed "$status" 2 "usage: scene-show < FILE"
 
 # The shows of the stored sample, one by one. In an answer's line each newline is written as a slash.
 export CARGO_TARGET_DIR=$PWD/target/oracle

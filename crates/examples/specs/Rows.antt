@@ -12,7 +12,7 @@ use Rattle.rules.specs.Answer.{outcomeOf, outcomeNumber, valueOr}
 use Rattle.validation.specs.Rank.{parents}
 use Rattle.compression.specs.Probability.{floats}
 use Rattle.text.specs.Text.{ascii}
-use Rattle.claims.specs.Book.{Packet, bookScene, bookFirst, bookReading, bookShapes}
+use Rattle.claims.specs.Book.{Packet, packetOf, bookScene, bookFirst, bookReading, bookShapes}
 use Rattle.show.specs.Header.{fileQuestion}
 use Rattle.show.specs.Show.{showText}
 
@@ -51,7 +51,7 @@ abbrev pub whole : {A : Type 0} → List ℕ → Rule A → Reading A
 whole bs r = reading (record { bytes = bs; recording = false; room = 0 }) r 0 (8 * length bs) 0
 
 abbrev pub packetIn : List ℕ → Packet
-packetIn bs = record { bytes = bs; offset = 0; recording = false; room = 0 }
+packetIn bs = packetOf bs 0 false []
 
 -- patterns of 32 bits as bytes, most significant first
 abbrev pub bytesOf : List ℕ → List ℕ

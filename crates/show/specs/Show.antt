@@ -14,7 +14,7 @@ use Rattle.rules.specs.Reading.{isRead}
 use Rattle.rules.specs.Answer.{answerOf}
 use Rattle.position.specs.declared.PositionSyntax.{PositionSyntax}
 use Rattle.validation.specs.Rank.{parents, parentOf, rankOf}
-use Rattle.claims.specs.Book.{Packet, Given, bookScene, bookFirst, bookAnswers, bookShapes}
+use Rattle.claims.specs.Book.{Packet, packetOf, Given, bookScene, bookFirst, bookAnswers, bookShapes}
 use Rattle.text.specs.declared.TextAnswer.{TextAnswer}
 use Rattle.text.specs.Text.{ascii, decimal, Put}
 use Rattle.show.specs.Header.{partCount, partOf, fileQuestion}
@@ -48,9 +48,9 @@ positionLines ps (suc n) i = positionLine (i + 1) (parentOf ps (i + 1)) (rankOf 
 abbrev pub allPositions : List PositionSyntax → List ℕ
 allPositions shapes = positionLines (parents shapes) (length (parents shapes)) 0
 
--- A part as the book is fed it: from bit 0, recording off.
+-- A part as the book is fed it: from bit 0, recording off, no words lent.
 abbrev pub packet : List ℕ → ℕ → Packet
-packet file k = record { bytes = partOf file k; offset = 0; recording = false; room = 0 }
+packet file k = packetOf (partOf file k) 0 false []
 
 -- the n parts from k on
 unfoldable pub packets : List ℕ → ℕ → ℕ → List Packet

@@ -6,6 +6,7 @@ use Rattle.io.proofs.Counting.{counts}
 use Rattle.input.proofs.read_input.Statement.{statement}
 use Rattle.input.proofs.read_input.Tie as tie
 
+-- no more was read than there is room for, which stays as it is
 abbrev Inv-loop : tie.InvT-loop
 Inv-loop bytes₀ length₀ bytes length = (length ≤ lib.length bytes) × (lib.length bytes ≡ lib.length bytes₀)
 
