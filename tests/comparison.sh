@@ -6,7 +6,7 @@
 # both sides.
 set -euo pipefail
 cd "$(dirname "$0")/.."
-export CARGO_TARGET_DIR=$PWD/target/oracle PORT_LIBRARY_DIR=$PWD/target/staticlib
+export CARGO_TARGET_DIR=$PWD/target/oracle GATEWAY_LIBRARY_DIR=$PWD/target/staticlib
 cargo test --quiet --release --offline --manifest-path oracle/Cargo.toml
 cargo build --quiet --release --offline --manifest-path oracle/Cargo.toml
 release=$CARGO_TARGET_DIR/release

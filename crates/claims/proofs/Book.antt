@@ -6,8 +6,8 @@ use mathlib.Core.List.{List, [], _∷_}
 use native.Mathlib.Omega.{arith}
 use lib.ListN.{length}
 use Rattle.rules.specs.Reading.{Result, read, ended, isRead}
-use Rattle.rules.specs.Answer.{outcomeOf, valueOr}
-use Rattle.rules.proofs.Laws.{never}
+use Rattle.rules.specs.Answer.{valueOr}
+use Rattle.rules.proofs.Answers.{value-unread}
 use Rattle.position.specs.declared.PositionSyntax.{PositionSyntax}
 use Rattle.validation.specs.Rank.{HaveRanks, parents}
 use Rattle.claims.specs.Book.{Packet, input, Given, given, bookScene, bookFirst, bookReading, kept, bookAnswers, bookShapes}
@@ -30,10 +30,6 @@ pub kept-by : (P : List PositionSyntax → Type 0) (s : List PositionSyntax) (x 
     ((l : List PositionSyntax) → x ≡ read l → P l) → P (valueOr s x)
 kept-by P s (read l) h k = k l refl
 kept-by P s (ended z) h k = h
-
-kept-ended : (s : List PositionSyntax) (x : Result (List PositionSyntax)) → isRead (outcomeOf x) ≡ false → valueOr s x ≡ s
-kept-ended s (read l) h = never refl h
-kept-ended s (ended z) h = refl
 
 -- what the book keeps of its shapes by a packet: ranks, and their number
 module _ (p : Packet) (s : List PositionSyntax) where
@@ -61,7 +57,7 @@ same-more {cs = cs} q a = record {
 
 -- a refused call leaves the shapes
 refused-leaves : {s m : List PositionSyntax} {c : Call} → ByRules s c m → isRead (c .given .answer .outcome) ≡ false → m ≡ s
-refused-leaves {s} {c = c} q h = q .leaves ∙ kept-ended s (bookReading (c .packet) s .result) (rw (q .gives) at h)
+refused-leaves {s} {c = c} q h = q .leaves ∙ value-unread s (bookReading (c .packet) s .result) (rw (q .gives) at h)
 
 accepted-yes : (c : Call) (cs : List Call) → isRead (c .given .answer .outcome) ≡ true → accepted (c ∷ cs) ≡ c ∷ accepted cs
 unfolding accepted

@@ -1,4 +1,4 @@
--- What the promises of `read_scene` and `graph_update` say in the book's terms.
+-- What the promises of `read_scene` and of the updates say in the book's terms.
 use Prim.Native.Nat.{ℕ, _*_}
 use mathlib.Core.Path.{_≡_, sym, _∙_, ap, subst}
 use mathlib.Core.List.{List, [], _++_}
@@ -17,8 +17,7 @@ use Rattle.position.specs.declared.PositionSyntax.{PositionSyntax}
 use Rattle.validation.specs.Rank.{HaveRanks, ForParents, parents}
 use Rattle.scene.specs.declared.SceneAnswer.{SceneAnswer}
 use Rattle.scene.specs.Scene.{sceneReading, SceneAnswered}
-use Rattle.update.specs.declared.UpdateAnswer.{UpdateAnswer}
-use Rattle.update.specs.Update.{updateReading, UpdateAnswered}
+use Rattle.update.specs.Update.{updateReading}
 use Rattle.laws.proofs.Front.{words-front}
 use Rattle.claims.specs.Book.{Packet, packetOf, input, given, givenBy, bookScene, bookReading, kept, SceneWouldGive, PacketWouldGive}
 use Rattle.claims.proofs.Shapes.{scene-ranked, scene-refused, update-refused}
@@ -58,19 +57,14 @@ module _ (bs : List ℕ) (offset : ℕ) (rec : Bool) (ws : List ℕ) where
     pub scene-for-parents : (next : List PositionSyntax) → SceneWouldGive p next → ForParents (outcomeNumber (r .answer .outcome)) ↔ (¬ HaveRanks (parents next))
     scene-for-parents next h = rw (m .answered .answer) (scene-refused (input p) offset next h)
 
-  module _ (shapes : List PositionSyntax) (count : ℕ) where
-    abbrev s : List PositionSyntax
-    s = take count shapes
+  module _ (s : List PositionSyntax) (count : ℕ) {r : Answer} {t : List PositionSyntax} {vs : List ℕ} (m : Answered (updateReading (input p) offset count s) s rec ws r t vs) where
+    pub update-by-rules : count ≡ length s → ByRules s (record { packet = p; given = givenBy rec r vs }) t
+    update-by-rules e =
+        let same : updateReading (input p) offset count s ≡ bookReading p s = ap (λ (n : ℕ). updateReading (input p) offset n s) e in
+        record {
+          gives = answer-given bs rec ws _ m ∙ ap (given rec) same;
+          leaves = m .value ∙ ap (λ (x : Reading (List PositionSyntax)). kept x s) same;
+        }
 
-    module _ {r : UpdateAnswer} {vs : List ℕ} (m : UpdateAnswered (updateReading (input p) offset count s) count shapes rec ws r vs) where
-      pub update-by-rules : count ≡ length s → ByRules s (record { packet = p; given = givenBy rec (r .answer) vs }) (take count (r .shapes))
-      update-by-rules e =
-          let same : updateReading (input p) offset count s ≡ bookReading p s = ap (λ (n : ℕ). updateReading (input p) offset n s) e in
-          record {
-            gives = answer-given bs rec ws _ (m .answered) ∙ ap (given rec) same;
-            leaves = m .answered .value ∙ ap (λ (x : Reading (List PositionSyntax)). kept x s) same;
-          }
-
-      pub packet-for-parents : (next : List PositionSyntax) → PacketWouldGive p count s next →
-          ForParents (outcomeNumber (r .answer .outcome)) ↔ (¬ HaveRanks (parents next))
-      packet-for-parents next h = rw (m .answered .answer) (update-refused (input p) offset count s next h)
+    pub packet-for-parents : (next : List PositionSyntax) → PacketWouldGive p count s next → ForParents (outcomeNumber (r .outcome)) ↔ (¬ HaveRanks (parents next))
+    packet-for-parents next h = rw (m .answer) (update-refused (input p) offset count s next h)

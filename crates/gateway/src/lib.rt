@@ -1,11 +1,10 @@
 // What a gateway calls from C or Rust: the readings as exported functions over numbers, slices and plain structs. None asks
-// anything of its caller.
+// anything of its caller. include/gateway.h says what they do.
 use position::PositionSyntax;
 use rules::Answer;
 use rules::Outcome;
-use text::TextAnswer;
 ghost use mathlib.Core.Path.{_≡_};
-ghost use lib.ListN.{length, take};
+ghost use lib.ListN.{length};
 ghost use Rattle.rules.specs.Answer.{inputOf, answerOf, outcomeNumber};
 ghost use Rattle.position.specs.Entry.{positionReading};
 ghost use Rattle.validation.specs.Validation.{validationReading};
@@ -13,21 +12,16 @@ ghost use Rattle.scene.specs.Scene.{sceneReading};
 ghost use Rattle.update.specs.Update.{updateReading};
 ghost use Rattle.metadata.specs.Entry.{metadataReading};
 ghost use Rattle.names.specs.NameText.{nameQuestion};
-ghost use Rattle.gateway.specs.Exported.{outcomeCode, exported, SceneExported, UpdateExported, PositionExported, MetadataExported, nameExported, NameExported};
+ghost use Rattle.gateway.specs.Exported.{outcomeCode, told, exported, SceneExported, Exported, NameExported};
 
-// An answer: the outcome is 0 if read, 1 if refused and 2 if stopped, and the number 0 if read.
+// An answer: the outcome is 0 if read, 1 if refused and 2 if stopped, and the number 0 if read. Counted are the fields of a
+// reading, or the bytes of a name's text.
 #[repr(C)]
 pub struct GatewayAnswer {
     pub outcome: u64,
     pub number: u64,
     pub position: usize,
-    pub fields: usize,
-}
-
-// Shapes by value: an array alone does not cross.
-#[repr(C)]
-pub struct GatewayShapes {
-    pub shapes: [PositionSyntax; 63],
+    pub counted: usize,
 }
 
 #[repr(C)]
@@ -35,27 +29,6 @@ pub struct GatewayScene {
     pub answer: GatewayAnswer,
     pub count: usize,
     pub shapes: [PositionSyntax; 63],
-}
-
-#[repr(C)]
-pub struct GatewayUpdate {
-    pub answer: GatewayAnswer,
-    pub shapes: [PositionSyntax; 63],
-}
-
-#[repr(C)]
-pub struct GatewayPosition {
-    pub answer: GatewayAnswer,
-    pub shape: PositionSyntax,
-}
-
-// The answer to a name, its outcome and number as those of a reading.
-#[repr(C)]
-pub struct GatewayName {
-    pub outcome: u64,
-    pub number: u64,
-    pub position: usize,
-    pub length: usize,
 }
 
 // The outcome as a number, and document 01's number with it.
@@ -80,32 +53,24 @@ fn outcome_number(outcome: Outcome) -> u64
 }
 
 // An answer as it crosses.
-fn exported(a: Answer) -> GatewayAnswer
-    ensures { λ r. ⌜ r ≡ exported a ⌝ }
+fn told(outcome: Outcome, position: usize, counted: usize) -> GatewayAnswer
+    ensures { λ r. ⌜ r ≡ told outcome position counted ⌝ }
 {
-    let told = a.outcome;
-    let outcome = outcome_code(told);
-    let number = outcome_number(told);
+    let code = outcome_code(outcome);
+    let number = outcome_number(outcome);
     GatewayAnswer {
-        outcome,
+        outcome: code,
         number,
-        position: a.position,
-        fields: a.fields,
+        position,
+        counted,
     }
 }
 
-fn name_exported(a: TextAnswer) -> GatewayName
-    ensures { λ r. ⌜ r ≡ nameExported a ⌝ }
+fn exported(a: Answer) -> GatewayAnswer
+    ensures { λ r. ⌜ r ≡ exported a ⌝ }
 {
-    let told = a.outcome;
-    let outcome = outcome_code(told);
-    let number = outcome_number(told);
-    GatewayName {
-        outcome,
-        number,
-        position: a.position,
-        length: a.length,
-    }
+    let outcome = a.outcome;
+    told(outcome, a.position, a.fields)
 }
 
 // `scene::read_scene`
@@ -119,8 +84,7 @@ pub extern "C" fn gateway_scene(
     ensures { λ r. ⌜ SceneExported (sceneReading (inputOf (now (bytes .entry)) recording (now (words .entry))) offset) recording (now (words .entry)) r (now (words .exit)) ⌝ }
 {
     let a = scene::read_scene(bytes, offset, recording, words);
-    let told = a.answer;
-    let answer = exported(told);
+    let answer = exported(a.answer);
     let shapes = a.shapes;
     GatewayScene {
         answer,
@@ -129,43 +93,44 @@ pub extern "C" fn gateway_scene(
     }
 }
 
-// `update::graph_update`
+// `lent::graph_update`
 #[no_mangle]
 pub extern "C" fn gateway_update(
     bytes: &[u8],
     offset: usize,
     recording: bool,
     words: &mut [u64],
-    given: GatewayShapes,
-    count: usize,
-) -> GatewayUpdate
-    ensures { λ r. ⌜ UpdateExported (updateReading (inputOf (now (bytes .entry)) recording (now (words .entry))) offset count (take count (given .shapes))) count (given .shapes) recording (now (words .entry)) r (now (words .exit)) ⌝ }
+    shapes: &mut [PositionSyntax],
+) -> GatewayAnswer
+    ensures { λ r. ⌜ Exported (updateReading (inputOf (now (bytes .entry)) recording (now (words .entry))) offset (length (now (shapes .entry))) (now (shapes .entry))) (now (shapes .entry)) recording (now (words .entry)) r (now (shapes .exit)) (now (words .exit)) ⌝ }
 {
-    let before = given.shapes;
-    let a = update::graph_update(bytes, offset, recording, words, before, count);
-    let told = a.answer;
-    let answer = exported(told);
-    let shapes = a.shapes;
-    GatewayUpdate { answer, shapes }
+    let a = lent::graph_update(bytes, offset, recording, &mut words[..], &mut shapes[..]);
+    exported(a)
 }
 
-// `position::read_position`
+// `lent::read_position`
 #[no_mangle]
 pub extern "C" fn gateway_position(
     bytes: &[u8],
     offset: usize,
     recording: bool,
     words: &mut [u64],
-    shape: PositionSyntax,
+    shape: &mut PositionSyntax,
     full: bool,
-) -> GatewayPosition
-    ensures { λ r. ⌜ PositionExported (positionReading (inputOf (now (bytes .entry)) recording (now (words .entry))) offset shape full) shape recording (now (words .entry)) r (now (words .exit)) ⌝ }
+) -> GatewayAnswer
+    ensures { λ r. ⌜ Exported (positionReading (inputOf (now (bytes .entry)) recording (now (words .entry))) offset (now (shape .entry)) full) (now (shape .entry)) recording (now (words .entry)) r (now (shape .exit)) (now (words .exit)) ⌝ }
 {
-    let a = position::read_position(bytes, offset, recording, words, shape, full);
-    let told = a.answer;
-    let answer = exported(told);
-    let to = a.shape;
-    GatewayPosition { answer, shape: to }
+    let a = lent::read_position(bytes, offset, recording, &mut words[..], &mut *shape, full);
+    exported(a)
+}
+
+// `lent::validate_graph`
+#[no_mangle]
+pub extern "C" fn gateway_validation(shapes: &[PositionSyntax], at: usize) -> GatewayAnswer
+    ensures { λ r. ⌜ r ≡ exported (answerOf (validationReading (length (now (shapes .entry))) (now (shapes .entry)) at)) ⌝ }
+{
+    let a = lent::validate_graph(&shapes[..], at);
+    exported(a)
 }
 
 // `metadata::read_metadata`
@@ -176,27 +141,18 @@ pub extern "C" fn gateway_metadata(
     recording: bool,
     words: &mut [u64],
 ) -> GatewayAnswer
-    ensures { λ r. ⌜ MetadataExported (metadataReading (inputOf (now (bytes .entry)) recording (now (words .entry))) offset) recording (now (words .entry)) r (now (words .exit)) ⌝ }
+    ensures { λ r. ⌜ Exported (metadataReading (inputOf (now (bytes .entry)) recording (now (words .entry))) offset) tt recording (now (words .entry)) r tt (now (words .exit)) ⌝ }
 {
-    let told = metadata::read_metadata(bytes, offset, recording, words);
-    exported(told)
-}
-
-// `validation::validate_graph`
-#[no_mangle]
-pub extern "C" fn gateway_validation(given: GatewayShapes, count: usize, at: usize) -> GatewayAnswer
-    ensures { λ r. ⌜ r ≡ exported (answerOf (validationReading count (take count (given .shapes)) at)) ⌝ }
-{
-    let shapes = given.shapes;
-    let a = validation::validate_graph(shapes, count, at);
+    let a = metadata::read_metadata(bytes, offset, recording, words);
     exported(a)
 }
 
 // `names::name_text`
 #[no_mangle]
-pub extern "C" fn gateway_name(word: u64, bytes: &mut [u8]) -> GatewayName
+pub extern "C" fn gateway_name(word: u64, bytes: &mut [u8]) -> GatewayAnswer
     ensures { λ r. ⌜ NameExported word (nameQuestion word (length (now (bytes .entry)))) (now (bytes .entry)) r (now (bytes .exit)) ⌝ }
 {
-    let told = names::name_text(word, bytes);
-    name_exported(told)
+    let a = names::name_text(word, bytes);
+    let outcome = a.outcome;
+    told(outcome, a.position, a.length)
 }

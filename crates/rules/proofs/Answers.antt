@@ -12,11 +12,11 @@ use Rattle.rules.specs.declared.Answer.{Answer}
 use Rattle.rules.specs.declared.State.{State}
 use Rattle.rules.specs.declared.Outcome.{Outcome}
 use Rattle.rules.specs.declared.Outcome.the-variants.{Read, Refused, Stopped}
-use Rattle.rules.specs.Rule.{Rule, _>>=_, pick}
-use Rattle.rules.specs.Reading.{Reading, isRead, resultOf}
+use Rattle.rules.specs.Rule.{Rule, End, refused, stopped, ends, _>>=_, pick}
+use Rattle.rules.specs.Reading.{Reading, Result, read, ended, Input, reading, isRead, resultOf}
 use Rattle.rules.specs.Derived.{demand, entry}
 use Rattle.rules.specs.Met.{Met, MetByBytes, Gives}
-use Rattle.rules.specs.Answer.{outcomeOf, answerOf, valueOr, inputOf, entryThen, entryReading, Answered}
+use Rattle.rules.specs.Answer.{endOutcome, outcomeOf, answerOf, valueOr, inputOf, entryThen, entryReading, Answered}
 use Rattle.rules.proofs.Laws.{never, ended-as, first-by-bytes}
 
 outcome-of : {A : Type 0} (o : Outcome) (a : A) → outcomeOf (resultOf o a) ≡ o
@@ -33,6 +33,20 @@ value-ended : {A : Type 0} (o : Outcome) (a b : A) → isRead o ≡ false → va
 value-ended Read a b h = never refl h
 value-ended (Refused n) a b h = refl
 value-ended (Stopped n) a b h = refl
+
+ended-unread : (x : End) → isRead (endOutcome x) ≡ false
+ended-unread (refused n) = refl
+ended-unread (stopped n) = refl
+
+-- what stands for the value of a call that was not read, and that nothing stands for one that was
+module _ {A : Type 0} (a : A) where
+  pub value-unread : (x : Result A) → isRead (outcomeOf x) ≡ false → valueOr a x ≡ a
+  value-unread (read b) h = never refl h
+  value-unread (ended x) h = refl
+
+  pub value-of-read : (b : A) (x : Result A) → isRead (outcomeOf x) ≡ true → valueOr a x ≡ valueOr b x
+  value-of-read b (read c) h = refl
+  value-of-read b (ended x) h = never h (ended-unread x)
 
 -- what a state has come to
 abbrev pub answerIn : State → Answer
@@ -67,14 +81,29 @@ pub call-gives : {A : Type 0} (r : Rule A) (own offset : ℕ) {bs ws vs : List �
 call-gives r own offset e m = (rw e at m) .going refl
 
 -- an entry whose own question is not met ends there, whatever was to come
-entry-refused : {A : Type 0} (size own offset : ℕ) (r : Rule A) {bs ws vs : List ℕ} {s t : State} {a : A} → own ≢ 0 →
-    Met (entry size own offset) bs ws s tt t vs → Met (entryThen size own offset r) bs ws s a t vs
-unfolding entry demand _>>=_
-entry-refused size own offset r {bs} {ws} {vs} {s} {t} {a} h m = go (leb size 8388608) refl
-  where
-    go : (b : Bool) → leb size 8388608 ≡ b → Met (entryThen size own offset r) bs ws s a t vs
-    go true q = rw (q, ne-eqb own 0 h) (ended-as (rw (q, ne-eqb own 0 h) at m))
-    go false q = rw q (ended-as (rw q at m))
+module _ {A : Type 0} (size own offset : ℕ) (r : Rule A) (h : own ≢ 0) where
+  abbrev at-question : {B : Type 0} → Rule B
+  at-question = ends (pick (leb size 8388608) (refused own) (refused 1))
+
+  entry-ends : (entry size own offset ≡ at-question) × (entryThen size own offset r ≡ at-question)
+  unfolding entry demand _>>=_
+  entry-ends = go (leb size 8388608) refl
+    where
+      go : (b : Bool) → leb size 8388608 ≡ b → (entry size own offset ≡ at-question) × (entryThen size own offset r ≡ at-question)
+      go true e = (rw (e, ne-eqb own 0 h), rw (e, ne-eqb own 0 h))
+      go false e = (rw e, rw e)
+
+  entry-refused : {bs ws vs : List ℕ} {s t : State} {a : A} → Met (entry size own offset) bs ws s tt t vs → Met (entryThen size own offset r) bs ws s a t vs
+  entry-refused m = rw (entry-ends .1) (ended-as (rw (entry-ends .0) at m))
+
+-- so it is the same as with any other rule, and is not read
+module _ {A : Type 0} (i : Input) (own offset : ℕ) (r : Rule A) (h : own ≢ 0) where
+  pub entry-any : (q : Rule A) → entryReading i own offset r ≡ entryReading i own offset q
+  entry-any q = rw (entry-ends (length (i .bytes)) own offset r h .1, entry-ends (length (i .bytes)) own offset q h .1)
+
+  pub entry-unread : isRead (outcomeOf (entryReading i own offset r .result)) ≡ false
+  unfolding reading
+  entry-unread = rw (entry-ends (length (i .bytes)) own offset r h .1) (ended-unread (pick (leb (length (i .bytes)) 8388608) (refused own) (refused 1)))
 
 -- the number of an entry's own question, 0 if it is met, by the code's own test of it
 module _ (met : Bool) (n : ℕ) {b : Bool} (e : b ≡ met) where

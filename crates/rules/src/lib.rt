@@ -13,6 +13,18 @@ pub enum Outcome {
     Stopped(u64),
 }
 
+impl Outcome {
+    pub fn is_read(self) -> bool
+        ensures { λ r. ⌜ r ≡ isRead self ⌝ }
+    {
+        match self {
+            Outcome::Read => true,
+            Outcome::Refused(_) => false,
+            Outcome::Stopped(_) => false,
+        }
+    }
+}
+
 // `Parser` and `BitReader` by value: the next bit, the end of the window, the fields counted, whether they are
 // recorded, and the outcome. A state that was refused or stopped is left alone by every further step.
 pub struct State {
@@ -116,11 +128,7 @@ impl State {
         ensures { λ r. ⌜ r ≡ isRead (self .outcome) ⌝ }
     {
         let outcome = self.outcome;
-        match outcome {
-            Outcome::Read => true,
-            Outcome::Refused(_) => false,
-            Outcome::Stopped(_) => false,
-        }
+        outcome.is_read()
     }
 
     // What the reading has come to.

@@ -1,21 +1,23 @@
 //! Requests put to the library, and what it gives back, checked, as answers.
 use crate::buffer::Buffer;
-use crate::library::{Arguments, Reading, SHAPES, Shape, Shapes, gateway_validation};
+use crate::library::{left, lent, verdict};
 use crate::names;
+use gateway::{
+    FIELD_WORDS, FieldValue, PositionSyntax, Scene, graph_update, read_metadata, read_position,
+    read_scene, validate_graph,
+};
 use oracle::answer::{Answer, Field};
-use oracle::driver::FIELD_WORDS;
-use oracle::request::{self, Call, Question, Request};
-
-const FIELD_SIZE: usize = FIELD_WORDS as usize;
+use oracle::request::{Call, Question, Request, Shape};
+use std::slice;
 
 pub fn answer(request: &Request) -> Result<Answer, String> {
     match request {
         Request::Call(call) => answer_call(call),
         Request::Validation { at, shapes } => {
-            let reading = gateway_validation(handed(shapes), shapes.len(), *at as usize);
+            let answer = validate_graph(&lent(shapes), *at as usize);
             Ok(Answer {
-                count: reading.fields,
-                ..Answer::bare(request.kind(), reading.verdict()?, &[])
+                count: answer.counted,
+                ..Answer::bare(request.kind(), verdict(answer)?, &[])
             })
         }
         Request::Name { word, room } => names::answer(*word, *room as usize),
@@ -24,114 +26,77 @@ pub fn answer(request: &Request) -> Result<Answer, String> {
 }
 
 fn answer_call(call: &Call) -> Result<Answer, String> {
-    let mut buffer = Buffer::new(call.room as usize);
-    let (reading, shapes) = asked(call, buffer.lent())?;
-    let recorded = if call.recording { reading.fields } else { 0 };
-    let words = buffer.written(recorded.saturating_mul(FIELD_SIZE))?;
+    let mut words = Buffer::blank(call.room as usize);
+    let (answer, shapes) = asked(call, words.lent())?;
+    let recorded = if call.recording { answer.counted } else { 0 };
+    let words = words.written(recorded.saturating_mul(FIELD_WORDS))?;
     Ok(Answer {
         kind: call.question.kind(),
-        verdict: reading.verdict()?,
-        count: reading.fields,
+        verdict: verdict(answer)?,
+        count: answer.counted,
         shapes,
         fields: fields(words)?,
         text: None,
     })
 }
 
-/// The reading, and the shapes after it.
-fn asked(call: &Call, words: &mut [u64]) -> Result<(Reading, Vec<request::Shape>), String> {
-    let arguments = Arguments {
-        bytes: &call.bytes,
-        offset: call.offset as usize,
-        recording: call.recording,
-        words,
-    };
+/// The library's answer, and the shapes after the call.
+fn asked(call: &Call, words: &mut [u64]) -> Result<(gateway::Answer, Vec<Shape>), String> {
+    let (bytes, offset, recording) = (&call.bytes, call.offset as usize, call.recording);
     match &call.question {
         Question::Scene => {
-            let scene = arguments.scene();
-            let shapes = declared(&scene.shapes, scene.count)?;
-            Ok((scene.answer, shapes))
+            let scene = read_scene(bytes, offset, recording, words);
+            Ok((scene.answer, declared(&scene)?))
         }
         Question::Update(given) => {
-            let shapes = handed(given);
-            let update = arguments.update(shapes, given.len());
-            let shapes = updated(given, &shapes, &update.shapes)?;
-            Ok((update.answer, shapes))
+            let mut shapes = Buffer::holding(lent(given));
+            let answer = graph_update(bytes, offset, recording, words, shapes.lent());
+            Ok((answer, left(shapes.written(given.len())?)))
         }
         Question::Position { full, shape } => {
-            let position = arguments.position(shape.into(), *full);
-            Ok((position.answer, vec![(&position.shape).into()]))
+            let mut shapes = Buffer::holding(lent(slice::from_ref(shape)));
+            let shape = &mut shapes.lent()[0];
+            let answer = read_position(bytes, offset, recording, words, shape, *full);
+            Ok((answer, left(shapes.written(1)?)))
         }
-        Question::Metadata => Ok((arguments.metadata(), Vec::new())),
+        Question::Metadata => {
+            let answer = read_metadata(bytes, offset, recording, words);
+            Ok((answer, Vec::new()))
+        }
         Question::Fields(_) => Err("the library has no fields".into()),
     }
 }
 
+/// The shapes of a scene; those beyond its count must be the default.
+fn declared(scene: &Scene) -> Result<Vec<Shape>, String> {
+    let is_default = |shape: &PositionSyntax| *shape == PositionSyntax::default();
+    if !scene.beyond().iter().all(is_default) {
+        return Err("a shape beyond the count isn't the default".into());
+    }
+    Ok(left(scene.shapes()))
+}
+
 /// The recorded fields, each named by the text of its word.
 fn fields(words: &[u64]) -> Result<Vec<Field>, String> {
-    words.chunks_exact(FIELD_SIZE).map(field).collect()
+    words.chunks(FIELD_WORDS).map(field).collect()
 }
 
 fn field(words: &[u64]) -> Result<Field, String> {
-    let &[offset, length, kind, value, name] = words else {
-        return Err(format!("not the words of a field: {words:?}"));
+    let missing = || format!("not the words of a field: {words:?}");
+    let field = gateway::Field::at(words, 0).ok_or_else(missing)?;
+    let (kind, value) = match field.value {
+        FieldValue::Flag(flag) => (0, flag.into()),
+        FieldValue::Number(number) => (1, number),
+        FieldValue::Bits(count) => (2, count),
+        FieldValue::Bytes(count) => (3, count),
     };
     Ok(Field {
-        offset,
-        length,
-        kind: kind
-            .try_into()
-            .map_err(|_| format!("no kind of value: {kind}"))?,
+        offset: field.bit_offset,
+        length: field.bit_length,
+        kind,
         value,
-        name: names::text(name)?,
+        name: names::text(field.name)?,
     })
-}
-
-/// The shapes of a request, as many as can be handed over; after them, such as no reading makes.
-fn handed(given: &[request::Shape]) -> Shapes {
-    let shape = |i| given.get(i).map_or_else(|| strange(i), Shape::from);
-    Shapes {
-        shapes: std::array::from_fn(shape),
-    }
-}
-
-/// A shape beyond the count, that a reading is neither to look at nor to change.
-fn strange(i: usize) -> Shape {
-    Shape {
-        parent_dynamic: i.is_multiple_of(2),
-        range_dynamic: i.is_multiple_of(3),
-        position_precision: 100 + i,
-        rotation_precision: 200 + i,
-        parent: 300 + i,
-        polar: i.is_multiple_of(5),
-    }
-}
-
-/// The shapes of a scene; those beyond its count must be the default.
-fn declared(shapes: &[Shape; SHAPES], count: usize) -> Result<Vec<request::Shape>, String> {
-    if count > SHAPES {
-        return Err(format!("a scene of {count} positions"));
-    }
-    let (first, beyond) = shapes.split_at(count);
-    match beyond.iter().position(|shape| *shape != Shape::default()) {
-        Some(i) => Err(format!("shape {} isn't the default", count + i + 1)),
-        None => Ok(first.iter().map(request::Shape::from).collect()),
-    }
-}
-
-/// The shapes after an update; those beyond the count must be as they were handed over, and those
-/// that could not be handed over are as they came.
-fn updated(
-    given: &[request::Shape],
-    before: &Shapes,
-    after: &[Shape; SHAPES],
-) -> Result<Vec<request::Shape>, String> {
-    let count = given.len().min(SHAPES);
-    if let Some(i) = (count..SHAPES).find(|&i| after[i] != before.shapes[i]) {
-        return Err(format!("shape {} was changed, beyond the count", i + 1));
-    }
-    let after = after[..count].iter().map(request::Shape::from);
-    Ok(after.chain(given[count..].iter().cloned()).collect())
 }
 
 #[cfg(test)]
@@ -171,6 +136,17 @@ mod tests {
         assert_eq!(end("metadata 8 1 20 40"), (3, 8, 0));
         assert_eq!(end("metadata 9 1 20 40"), (3, 0, 0));
         assert_eq!(end("metadata 18446744073709551615 0 0 40"), (3, 0, 0));
+    }
+
+    /// All shapes of a request are lent, also more than the library takes.
+    #[test]
+    fn lent_shapes_of_an_update() {
+        let shapes = |count| vec!["1:1:24:24:0:1"; count].join(",");
+        let update = |count| end(&format!("update 0 0 0 {} 0000000000000000", shapes(count)));
+        assert_eq!(update(1), (0, 1, 1));
+        assert_eq!(update(63), (0, 63, 63));
+        assert_eq!(update(64), (2, 0, 0));
+        assert_eq!(update(70), (2, 0, 0));
     }
 
     #[test]

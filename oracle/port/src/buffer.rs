@@ -1,10 +1,12 @@
-//! What is lent to the library. It holds a pattern, so that it shows which places were written.
+//! What is lent to the library, and places around it. Blank places hold a pattern, so that it shows
+//! which of them were written.
+use gateway::PositionSyntax;
 
-/// Places after those that are lent; a write beyond the room shows there.
-const BEYOND: usize = 8;
+/// Blank places before those that are lent, and as many after them.
+const MARGIN: usize = 8;
 
 pub trait Blank: PartialEq {
-    /// What a place holds before it is lent.
+    /// What a place holds while it is blank.
     fn blank(i: usize) -> Self;
 }
 
@@ -22,32 +24,56 @@ impl Blank for u8 {
     }
 }
 
+/// A shape, but none that a reading makes.
+impl Blank for PositionSyntax {
+    fn blank(i: usize) -> Self {
+        Self {
+            parent_dynamic: i.is_multiple_of(2),
+            range_dynamic: i.is_multiple_of(3),
+            position_precision: 100 + i,
+            rotation_precision: 200 + i,
+            parent: 300 + i,
+            polar: i.is_multiple_of(5),
+        }
+    }
+}
+
 pub struct Buffer<T> {
     places: Vec<T>,
     room: usize,
 }
 
 impl<T: Blank> Buffer<T> {
-    pub fn new(room: usize) -> Self {
-        Self {
-            places: (0..room + BEYOND).map(T::blank).collect(),
-            room,
+    /// Lends so many blank places.
+    pub fn blank(room: usize) -> Self {
+        let places = (0..MARGIN + room + MARGIN).map(T::blank).collect();
+        Self { places, room }
+    }
+
+    /// Lends places that hold this.
+    pub fn holding(lent: Vec<T>) -> Self {
+        let mut buffer = Self::blank(lent.len());
+        for (place, value) in buffer.lent().iter_mut().zip(lent) {
+            *place = value;
         }
+        buffer
     }
 
     pub fn lent(&mut self) -> &mut [T] {
-        &mut self.places[..self.room]
+        &mut self.places[MARGIN..][..self.room]
     }
 
-    /// The first so many places. All places after them must be as they were.
+    /// The first so many lent places. All other places must be blank.
     pub fn written(&self, count: usize) -> Result<&[T], String> {
         if count > self.room {
             return Err(format!("{count} places in a room for {}", self.room));
         }
-        let mut after = count..self.places.len();
-        match after.find(|&i| self.places[i] != T::blank(i)) {
-            Some(i) => Err(format!("place {i} was written, after {count}")),
-            None => Ok(&self.places[..count]),
+        let end = MARGIN + count;
+        let mut others = (0..MARGIN).chain(end..self.places.len());
+        match others.find(|&i| self.places[i] != T::blank(i)) {
+            Some(i) if i < MARGIN => Err(format!("a place {} before was written", MARGIN - i)),
+            Some(i) => Err(format!("place {} was written, after {count}", i - MARGIN)),
+            None => Ok(&self.places[MARGIN..end]),
         }
     }
 }
@@ -58,26 +84,40 @@ mod tests {
 
     #[test]
     fn written_places_are_given_back() {
-        let mut buffer = Buffer::new(7);
+        let mut buffer = Buffer::blank(7);
         buffer.lent()[..5].copy_from_slice(b"count");
         assert_eq!(buffer.written(5), Ok(b"count".as_slice()));
     }
 
     #[test]
-    fn places_after_them_are_held_to_the_pattern() {
-        let mut buffer = Buffer::<u64>::new(7);
-        assert!(buffer.written(0).is_ok());
-        buffer.lent()[6] = 0;
-        assert!(buffer.written(0).is_err());
-        assert!(buffer.written(6).is_err());
-        assert!(buffer.written(7).is_ok());
-        buffer.places[7] = 0;
-        assert!(buffer.written(7).is_err());
+    fn held_places_are_lent_and_given_back() {
+        let mut buffer = Buffer::holding(vec![3, 4]);
+        assert_eq!(buffer.lent(), [3, 4]);
+        buffer.lent()[1] = 5_u64;
+        assert_eq!(buffer.written(2), Ok([3, 5].as_slice()));
+        assert!(buffer.written(1).is_err());
+    }
+
+    #[test]
+    fn other_places_are_held_to_the_pattern() {
+        for (place, least) in [
+            (7, None),
+            (8, Some(1)),
+            (14, Some(7)),
+            (15, None),
+            (22, None),
+        ] {
+            let mut buffer = Buffer::<u64>::blank(7);
+            assert!(buffer.written(0).is_ok());
+            buffer.places[place] = 0;
+            let written = (0..=7).find(|&count| buffer.written(count).is_ok());
+            assert_eq!(written, least, "place {place}");
+        }
     }
 
     #[test]
     fn written_places_must_have_room() {
-        assert!(Buffer::<u8>::new(9).written(9).is_ok());
-        assert!(Buffer::<u8>::new(9).written(10).is_err());
+        assert!(Buffer::<u8>::blank(9).written(9).is_ok());
+        assert!(Buffer::<u8>::blank(9).written(10).is_err());
     }
 }

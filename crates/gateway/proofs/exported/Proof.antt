@@ -1,19 +1,12 @@
 use borrow.Author.Needs.{needs}
 use Rattle.gateway.proofs.exported.Statement.{statement}
 use Rattle.gateway.proofs.exported.Tie as tie
-use Rattle.gateway.proofs.exported.Reads as reads
-use Rattle.gateway.proofs.exported.Lts as lts
-use Rattle.gateway.proofs.outcome_code.Reads as outcome-code-reads
-use Rattle.gateway.proofs.outcome_number.Reads as outcome-number-reads
 
-outcome-code-requires : tie.Need-outcome-code-requires
-outcome-code-requires c κs = search needs
-
-outcome-number-requires : tie.Need-outcome-number-requires
-outcome-number-requires c κs = search needs
+told-requires : tie.Need-told-requires
+told-requires c κs = search needs
 
 returns : tie.Need-returns
-returns c = rw (c .before .outcome-code .ensures, c .outcome-number .ensures)
+returns c = c .told .ensures
 
 pub exported-spec : {M : Type 1} → statement M
-exported-spec = tie.close (tie.spec outcome-code-requires outcome-number-requires returns)
+exported-spec = tie.close (tie.spec told-requires returns)

@@ -12,7 +12,7 @@ same-length : tie.Need-same-length
 same-length c = search needs
 
 returns : tie.Need-returns
-returns c = record { scene = _; answered = c .before .before .before .before .before .read-scene .ensures; same = rw (c .before .exported .ensures) }
+returns c = record { scene = _; answered = c .before .before .before .before .read-scene .ensures; same = rw (c .before .exported .ensures) }
 
 pub gateway-scene-spec : {M : Type 1} → statement M
 gateway-scene-spec = tie.close (tie.spec read-scene-requires exported-requires same-length returns)

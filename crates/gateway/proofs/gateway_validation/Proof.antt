@@ -1,6 +1,8 @@
+mod Lts
+mod Tie
 use borrow.Author.Needs.{needs}
 use Rattle.gateway.proofs.gateway_validation.Statement.{statement}
-use Rattle.gateway.proofs.gateway_validation.Tie as tie
+use Rattle.gateway.proofs.gateway_validation.Proof.Tie as tie
 
 validate-graph-requires : tie.Need-validate-graph-requires
 validate-graph-requires c κs = search needs

@@ -1,7 +1,7 @@
-//! Links the port's static library, from the folder that an environment variable names.
+//! Links the static library, from the folder that an environment variable names.
 use std::env;
 
-const FOLDER: &str = "PORT_LIBRARY_DIR";
+const FOLDER: &str = "GATEWAY_LIBRARY_DIR";
 const LIBRARY: &str = "gateway";
 
 fn main() {
