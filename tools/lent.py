@@ -62,7 +62,7 @@ def twin(crate, planned):
 
     source = 'ghost use Prim.Native.Nat.{_<_};\n' + FUNCTION.sub(function, source)
     if copying:
-        return re.sub(r'^use .*\n', '', source, flags=re.M).replace(STRUCT, ARRAY)
+        return re.sub(rf'^use .*{STRUCT};\n', '', source, flags=re.M).replace(STRUCT, ARRAY)
     return re.sub(rf'(&(?:mut )?\[?){STRUCT}', rf'\1{ARRAY}', source)
 
 

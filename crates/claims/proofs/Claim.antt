@@ -115,7 +115,7 @@ module _ (w : World) where
   count lent x = length (now (x .3 .1 .1 .1 .1 .0))
 
   abbrev pub shapes : (f : Form) → Args f → List PositionSyntax
-  shapes by-value x = take (x .3 .1 .1 .1 .1 .1 .0) (x .3 .1 .1 .1 .1 .0)
+  shapes by-value x = take (count by-value x) (x .3 .1 .1 .1 .1 .0)
   shapes lent x = now (x .3 .1 .1 .1 .1 .0)
 
   -- its answer, the words and the shapes that it left

@@ -1,15 +1,15 @@
 -- From what the readings by value promise to the same of lent shapes.
-use Prim.Native.Nat.{ℕ, _<_, _≤_}
+use Prim.Native.Nat.{ℕ, _≤_}
 use mathlib.Core.Path.{_≡_, refl, sym, _∙_, ap}
 use mathlib.Core.List.{List}
 use mathlib.Core.Bool.{Bool, true, false}
 use native.Mathlib.Omega.{arith}
-use borrow.Author.Tests.{leb-true, leb-false}
+use borrow.Author.Tests.{leb-true}
 use lib.Dec.{leb}
 use lib.ListN.{length, take}
 use Rattle.rules.specs.declared.Answer.{Answer}
 use Rattle.rules.specs.Reading.{Reading, Input, isRead}
-use Rattle.rules.specs.Answer.{answerOf, outcomeOf, valueOr, Answered}
+use Rattle.rules.specs.Answer.{answerOf, outcomeOf, Answered}
 use Rattle.rules.proofs.Laws.{never}
 use Rattle.rules.proofs.Answers.{value-unread, value-of-read, entry-any, entry-unread}
 use Rattle.position.specs.declared.PositionSyntax.{PositionSyntax}

@@ -2,6 +2,7 @@
 // value. A lent shape is written only where the reading was accepted.
 use position::PositionSyntax;
 use rules::Answer;
+use rules::State;
 ghost use mathlib.Core.Path.{_≡_};
 ghost use Prim.Native.Nat.{_≤_};
 ghost use lib.ListN.{length, take};
@@ -10,6 +11,7 @@ ghost use Rattle.position.specs.Entry.{positionReading};
 ghost use Rattle.validation.specs.Validation.{validationReading};
 ghost use Rattle.update.specs.Update.{updateReading};
 
+// The lent shape, and another in its place.
 fn shape_of(shape: &PositionSyntax) -> PositionSyntax
     ensures { λ r. ⌜ r ≡ now (shape .entry) ⌝ }
 {
@@ -28,7 +30,7 @@ fn array_of(shapes: &[PositionSyntax], none: PositionSyntax) -> [PositionSyntax;
 {
     let count = shapes.len();
     let mut array = [none; 63];
-    if count > 63 {
+    if count > State::POSITIONS {
         return array;
     }
     let mut i: usize = 0;
