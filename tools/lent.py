@@ -18,6 +18,7 @@ import subprocess
 import sys
 import tempfile
 
+# S, and its size in words of 64 bits.
 STRUCT, WORDS = 'PositionSyntax', 5
 ARRAY = f'[u64; {WORDS}]'
 

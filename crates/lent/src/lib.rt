@@ -56,7 +56,7 @@ fn write_back(shapes: &mut [PositionSyntax], array: [PositionSyntax; 63])
     }
 }
 
-// `position::read_position`
+// `position::read_position`, of a lent shape.
 pub fn read_position(
     bytes: &[u8],
     offset: usize,
