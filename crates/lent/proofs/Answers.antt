@@ -41,13 +41,17 @@ module _ (shapes array : List PositionSyntax) (copy : length shapes ≤ 63 → t
   abbrev count : ℕ
   count = length shapes
 
+  -- at most 63, or not
+  by-count : {B : Type 0} → (count ≤ 63 → B) → (leb count 63 ≡ false → B) → B
+  by-count {B} few many = go (leb count 63) refl
+    where
+      go : (b : Bool) → leb count 63 ≡ b → B
+      go true e = few (leb-true count 63 e)
+      go false e = many e
+
   -- what looks at no more than 63 shapes is the same of the copy
   of-copy : {B : Type 0} (f : List PositionSyntax → B) → (leb count 63 ≡ false → f (take count array) ≡ f shapes) → f (take count array) ≡ f shapes
-  of-copy {B} f many = go (leb count 63) refl
-    where
-      go : (b : Bool) → leb count 63 ≡ b → f (take count array) ≡ f shapes
-      go true e = ap f (copy (leb-true count 63 e))
-      go false e = many e
+  of-copy f = by-count (λ h. ap f (copy h))
 
   module _ (i : Input) (offset : ℕ) where
     same-reading : updateReading i offset count (take count array) ≡ updateReading i offset count shapes
@@ -58,12 +62,9 @@ module _ (shapes array : List PositionSyntax) (copy : length shapes ≤ 63 → t
       pub of-shapes : Answered (updateReading i offset count shapes) (take count array) rec ws (r .answer) (take count (r .shapes)) vs
       of-shapes = rw (← same-reading) (m .answered)
 
+      -- an update that was read has at most 63
       pub few : {b : Bool} → b ≡ isRead (r .answer .outcome) → b ≡ true → length shapes ≤ 63
-      few e h = go (leb count 63) refl
-        where
-          go : (d : Bool) → leb count 63 ≡ d → length shapes ≤ 63
-          go true q = leb-true count 63 q
-          go false q = never (sym (told of-shapes e) ∙ h) (rw q (entry-unread i 2 offset (graphUpdate shapes) (λ z. omega arith)))
+      few e h = by-count (λ l. l) (λ q. never (sym (told of-shapes e) ∙ h) (rw q (entry-unread i 2 offset (graphUpdate shapes) (λ z. omega arith))))
 
   pub validated : (at : ℕ) {r : Answer} → r ≡ answerOf (validationReading count (take count array) at) → r ≡ answerOf (validationReading count shapes at)
   unfolding validationReading

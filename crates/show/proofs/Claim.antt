@@ -1,5 +1,5 @@
--- Demand 3, of the show. What `show` prints are the answers that calls of `read_scene` and `graph_update` on its parts get,
--- each on the shapes that the call before left, and the parents and ranks of the shapes that they leave.
+-- Demand 3, of the show. What `show` prints are the answers that calls of `read_scene` and of an update, by value or lent, on
+-- its parts get, each on the shapes that the call before left, and the parents and ranks of the shapes that they leave.
 use Prim.Native.Nat.{ℕ, _-_}
 use mathlib.Core.Path.{_≡_, sym, _∙_, ap, ap₂}
 use mathlib.Core.List.{List, _++_, append-nil}
@@ -62,7 +62,7 @@ module _ (w : World) where
     -- A file that is not refused. If `read_scene` on part 0 did not accept it, its answer is all that is printed.
     pub refused : (file : List ℕ) → fileQuestion file ≡ 0 → (x : SceneArgs w) (σ : Memory) (run : SceneRun w x σ) → scenePacket w x ≡ packet file 0 →
         isRead (run .result .answer .outcome) ≡ false → showText file ≡ partLine 0 (run .result .answer)
-    -- If it did, and `graph_update` was called on the other parts, one after another, each time on the shapes that the call
+    -- If it did, and an update was called on the other parts, one after another, each time on the shapes that the call
     -- before left, then the answers that are printed are theirs, and the positions those of the shapes that they left ..
     pub printed : (file : List ℕ) → fileQuestion file ≡ 0 → (scene : Call) (s t : List PositionSyntax) (cs : List Call) →
         Accepted w scene s → Ran (Called w) s cs t → scene .packet ≡ packet file 0 → fed cs ≡ packets file (partCount file - 1) 1 →
