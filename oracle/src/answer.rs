@@ -41,12 +41,15 @@ pub struct Verdict {
 pub struct Answer {
     pub kind: &'static str,
     pub verdict: Verdict,
-    /// The fields counted, or the length of a text. With recording off no field is listed.
+    /// The fields counted, the length of a text, or the number of a list's packets. With recording
+    /// off no field is listed.
     pub count: usize,
     pub shapes: Vec<Shape>,
     pub fields: Vec<Field>,
     /// The text of a name that was read, or what is printed for a show.
     pub text: Option<String>,
+    /// Of a list the answers of its scene and of its updates.
+    pub packets: Vec<Answer>,
 }
 
 impl Verdict {
@@ -119,6 +122,7 @@ impl Answer {
             shapes: given.to_vec(),
             fields: Vec::new(),
             text: None,
+            packets: Vec::new(),
         }
     }
 
@@ -133,6 +137,15 @@ impl Answer {
             count: length,
             text,
             ..Self::bare(kind, verdict, &[])
+        }
+    }
+
+    /// The answer of a list, which is read whatever its packets give.
+    pub fn of_list(packets: Vec<Answer>) -> Self {
+        Self {
+            count: packets.len(),
+            packets,
+            ..Self::bare("list", Verdict::without_number(Outcome::Read), &[])
         }
     }
 
@@ -187,7 +200,10 @@ impl fmt::Display for Answer {
         )?;
         match &self.text {
             Some(text) => f.write_str(&text.replace('\n', "/")),
-            None => f.write_str(&joined(self.fields.iter().map(Field::to_string), ";")),
+            None if self.packets.is_empty() => {
+                f.write_str(&joined(self.fields.iter().map(Field::to_string), ";"))
+            }
+            None => f.write_str(&joined(self.packets.iter().map(Answer::to_string), "|")),
         }
     }
 }

@@ -2,7 +2,7 @@
 use crate::answer::{Answer, Field, Outcome, Verdict};
 use crate::label;
 use crate::names;
-use crate::request::{Call, Question, Request, Shape};
+use crate::request::{Call, Input, List, Question, Request, Shape};
 use crate::show;
 use apac::run::{End, Reading, Run};
 use std::panic::{AssertUnwindSafe, catch_unwind};
@@ -31,10 +31,32 @@ pub fn confirm_default_shape() {
 pub fn answer(request: &Request) -> Answer {
     match request {
         Request::Call(call) => answer_call(call),
+        Request::List(list) => answer_list(list),
         Request::Validation { at, shapes } => answer_validation(*at, shapes),
         Request::Name { word, room } => answer_name(*word, *room as usize),
         Request::Show { bytes } => show::answer(bytes),
     }
+}
+
+/// The answer for an input, with recording off.
+pub fn read(question: Question, input: Input) -> Answer {
+    answer_call(&Call {
+        question,
+        offset: input.offset,
+        recording: false,
+        room: 0,
+        bytes: input.bytes,
+    })
+}
+
+/// The most fields of a packet of a list, as if the buffer were large enough.
+pub fn most_fields(list: &List) -> usize {
+    let unrecorded = List {
+        recording: false,
+        ..list.clone()
+    };
+    let counts = answer_list(&unrecorded).packets;
+    counts.iter().map(|packet| packet.count).max().unwrap_or(0)
 }
 
 /// The fields of a call, as if its buffer were large enough.
@@ -68,6 +90,17 @@ fn answer_name(word: u64, room: usize) -> Answer {
             Answer::of_text("name", read, text.len(), Some(text))
         }
     }
+}
+
+/// Each update is asked of the shapes that the packets before it left. That is what `graph_update`
+/// left, if the packet was read, and else what it was handed. A scene that is not read leaves none.
+fn answer_list(list: &List) -> Answer {
+    let mut packets = vec![answer_call(&list.call(Question::Scene, &list.scene))];
+    for update in &list.updates {
+        let left = packets[packets.len() - 1].shapes.clone();
+        packets.push(answer_call(&list.call(Question::Update(left), update)));
+    }
+    Answer::of_list(packets)
 }
 
 fn answer_call(call: &Call) -> Answer {
@@ -151,16 +184,14 @@ fn answer_run(call: &Call, run: Run) -> Answer {
             verdict
         }
     };
+    let shapes = match verdict.outcome {
+        Outcome::Read => &run.shapes,
+        _ => call.question.shapes(),
+    };
     Answer {
-        kind: call.question.kind(),
         count: fields.len(),
-        shapes: match verdict.outcome {
-            Outcome::Read => run.shapes,
-            _ => call.question.shapes().to_vec(),
-        },
         fields: if call.recording { fields } else { Vec::new() },
-        text: None,
-        verdict,
+        ..Answer::bare(call.question.kind(), verdict, shapes)
     }
 }
 

@@ -28,11 +28,11 @@ fn run(words: &[&str]) -> Result<bool, String> {
         ["generate", seed, scale] => {
             confirm_default_shape();
             let (seed, scale) = (text::number(seed)?, text::number(scale)?);
-            generate::generate(seed, scale, &mut out).map_err(told)?;
+            write_requests(generate::generate(seed, scale), &mut out)?;
             true
         }
         ["sample", seed] => {
-            generate::sample(text::number(seed)?, &mut out).map_err(told)?;
+            write_requests(generate::sample(text::number(seed)?), &mut out)?;
             true
         }
         ["answer"] => {
@@ -51,6 +51,14 @@ fn run(words: &[&str]) -> Result<bool, String> {
     Ok(good)
 }
 
+fn write_requests(
+    parts: impl Iterator<Item = Vec<Request>>,
+    out: &mut impl Write,
+) -> Result<(), String> {
+    let mut requests = parts.flatten();
+    requests.try_for_each(|request| writeln!(out, "{request}").map_err(told))
+}
+
 fn write_answer(line: &str, out: &mut impl Write) -> Result<(), String> {
     let answer = answer(&Request::parse(line)?);
     writeln!(out, "{answer}").map_err(told)
@@ -64,17 +72,10 @@ fn write_record(line: &str, out: &mut impl Write) -> Result<(), String> {
 fn write_table(out: &mut impl Write) -> Result<bool, String> {
     confirm_default_shape();
     let mut table = Table::default();
-    each_line(|line| table.count(line))?;
-    let rare = table.rare();
-    let verdict = if rare.is_empty() {
-        "every number that these kinds of readings can give was reached at least five times".into()
-    } else {
-        format!("reached fewer than five times: {}", rare.join(", "))
-    };
-    let text = table.text();
-    writeln!(out, "{text}\n\n{verdict}").map_err(told)?;
+    each_line(|line| table.count_line(line))?;
+    writeln!(out, "{table}").map_err(told)?;
     writeln!(out, "PositionSyntax::default() is all false and 0").map_err(told)?;
-    Ok(rare.is_empty() && !table.is_odd())
+    Ok(table.is_sound())
 }
 
 fn write_comparison(a: &str, b: &str, out: &mut impl Write) -> Result<bool, String> {

@@ -2,10 +2,10 @@
 use crate::answer::{Answer, Field, Outcome};
 use crate::driver::{GREATEST_COUNT, answer};
 use crate::names;
-use crate::request::{Question, Request, Shape};
+use crate::request::{Call, Question, Request, Shape};
 use apac::run::{Action, Op};
 
-/// The kinds of requests; the first byte of a record is the place of its kind here.
+/// The kinds of requests that have records; the first byte of a record is the place of its kind here.
 const KINDS: [&str; 8] = [
     "fields",
     "scene",
@@ -17,27 +17,33 @@ const KINDS: [&str; 8] = [
     "show",
 ];
 
-/// The record of a request and its answer.
+/// The record of a request and the oracle's answer.
 pub fn record(request: &Request) -> Result<Vec<u8>, String> {
-    let kind = KINDS.iter().position(|&kind| kind == request.kind());
-    let answer = answer(request);
-    let mut record = vec![kind.expect("every kind has records") as u8];
+    record_with(request, &answer(request))
+}
+
+/// The record of a request and its answer.
+pub fn record_with(request: &Request, answer: &Answer) -> Result<Vec<u8>, String> {
+    let mut record = Vec::new();
     put_arguments(&mut record, request)?;
-    put_end(&mut record, &answer)?;
+    put_end(&mut record, answer)?;
     put_given(&mut record, request)?;
-    put_result(&mut record, &answer)?;
+    put_result(&mut record, answer)?;
     Ok(record)
 }
 
-/// Recording, room, offset, length of the input, and a number that each kind has of its own. In the
-/// place of the offset a validation has its position, and a name its word.
+/// Kind, recording, room, offset, length of the input, and a number that each kind has of its own.
+/// In the place of the offset a validation has its position, and a name its word.
 fn put_arguments(record: &mut Vec<u8>, request: &Request) -> Result<(), String> {
     let (recording, room, offset, bytes) = match request {
         Request::Call(call) => (call.recording, call.room, call.offset, call.bytes.len()),
         Request::Validation { at, .. } => (false, 0, *at, 0),
         Request::Name { word, room } => (false, *room, *word, 0),
         Request::Show { bytes } => (false, 0, 0, bytes.len()),
+        Request::List(_) => return Err("no such kind of record: list".into()),
     };
+    let kind = KINDS.iter().position(|&kind| kind == request.kind());
+    record.push(kind.expect("every other kind has records") as u8);
     record.push(recording.into());
     record.extend(room.to_be_bytes());
     record.extend(offset.to_be_bytes());
@@ -58,7 +64,7 @@ fn own_number(request: &Request) -> usize {
 fn question(request: &Request) -> Option<&Question> {
     match request {
         Request::Call(call) => Some(&call.question),
-        Request::Validation { .. } | Request::Name { .. } | Request::Show { .. } => None,
+        _ => None,
     }
 }
 
@@ -87,10 +93,8 @@ fn outcome_code(outcome: &Outcome) -> Result<u8, String> {
 
 /// The input, and the operations or the shapes that were handed in.
 fn put_given(record: &mut Vec<u8>, request: &Request) -> Result<(), String> {
-    match request {
-        Request::Call(call) => record.extend_from_slice(&call.bytes),
-        Request::Show { bytes } => record.extend_from_slice(bytes),
-        Request::Validation { .. } | Request::Name { .. } => {}
+    if let Request::Call(Call { bytes, .. }) | Request::Show { bytes } = request {
+        record.extend_from_slice(bytes);
     }
     if let Some(Question::Fields(ops)) = question(request) {
         ops.iter().for_each(|op| put_op(record, op));
@@ -238,6 +242,12 @@ mod tests {
         let head = "07_00_00000000_0000000000000000_00000001_0000_01_18_0000000000000000_00000010";
         let text = hex(b"file refused 24\n");
         check("show 00", &[&plain(head), "00", &text]);
+    }
+
+    #[test]
+    fn lists_have_no_records() {
+        let list = Request::parse("list 0 0 0:00 -").expect("a request");
+        assert_eq!(record(&list), Err("no such kind of record: list".into()));
     }
 
     /// No more shapes than 63 are written, and their true number.

@@ -28,9 +28,26 @@ pub struct Call {
     pub bytes: Vec<u8>,
 }
 
+/// Bytes, and the bit at which their reading begins.
+#[derive(Clone, Debug, PartialEq)]
+pub struct Input {
+    pub offset: u64,
+    pub bytes: Vec<u8>,
+}
+
+/// A scene, and packets that update its shapes one after the other. All are lent the same room.
+#[derive(Clone, Debug, PartialEq)]
+pub struct List {
+    pub recording: bool,
+    pub room: u32,
+    pub scene: Input,
+    pub updates: Vec<Input>,
+}
+
 #[derive(Clone, Debug, PartialEq)]
 pub enum Request {
     Call(Call),
+    List(List),
     Validation {
         at: u64,
         shapes: Vec<Shape>,
@@ -71,6 +88,7 @@ impl Request {
     pub fn kind(&self) -> &'static str {
         match self {
             Self::Call(call) => call.question.kind(),
+            Self::List(_) => "list",
             Self::Validation { .. } => "validation",
             Self::Name { .. } => "name",
             Self::Show { .. } => "show",
@@ -82,7 +100,7 @@ impl Request {
         match self {
             Self::Call(call) => call.question.shapes(),
             Self::Validation { shapes, .. } => shapes,
-            Self::Name { .. } | Self::Show { .. } => &[],
+            Self::List(_) | Self::Name { .. } | Self::Show { .. } => &[],
         }
     }
 
@@ -90,6 +108,7 @@ impl Request {
         let mut words = Words::new(line);
         let kind = words.next()?;
         let request = match kind {
+            "list" => Self::List(List::parse(&mut words)?),
             "validation" => Self::Validation {
                 at: number(words.next()?)?,
                 shapes: parse_shapes(words.next()?)?,
@@ -135,10 +154,63 @@ impl Call {
     }
 }
 
+impl List {
+    fn parse(words: &mut Words<'_>) -> Result<Self, String> {
+        Ok(Self {
+            recording: flag(words.next()?)?,
+            room: number(words.next()?)?,
+            scene: Input::parse(words.next()?)?,
+            updates: list(words.next()?)
+                .map(Input::parse)
+                .collect::<Result<_, _>>()?,
+        })
+    }
+
+    /// A question about one of the packets, with the arguments that all have in common.
+    pub fn call(&self, question: Question, input: &Input) -> Call {
+        Call {
+            question,
+            offset: input.offset,
+            recording: self.recording,
+            room: self.room,
+            bytes: input.bytes.clone(),
+        }
+    }
+}
+
+impl Input {
+    fn parse(text: &str) -> Result<Self, String> {
+        let parts = text.split_once(':');
+        let (offset, bytes) = parts.ok_or_else(|| format!("not a packet: {text}"))?;
+        Ok(Self {
+            offset: number(offset)?,
+            bytes: unhex(bytes)?,
+        })
+    }
+
+    /// The same bytes, read from another bit on.
+    pub fn at_bit(&self, offset: u64) -> Self {
+        Self {
+            offset,
+            bytes: self.bytes.clone(),
+        }
+    }
+}
+
+impl From<&[u8]> for Input {
+    fn from(bytes: &[u8]) -> Self {
+        Self {
+            offset: 0,
+            bytes: bytes.to_vec(),
+        }
+    }
+}
+
 impl fmt::Display for Request {
     fn fmt(&self, f: &mut fmt::Formatter<'_>) -> fmt::Result {
         match self {
             Self::Call(call) => call.fmt(f),
+            Self::List(list) => list.fmt(f),
             Self::Validation { at, shapes } => write!(f, "validation {at} {}", shape_list(shapes)),
             Self::Name { word, room } => write!(f, "name {word} {room}"),
             Self::Show { bytes } => write!(f, "show {}", hex(bytes)),
@@ -160,6 +232,20 @@ impl fmt::Display for Call {
             Question::Fields(ops) => write!(f, "{} ", script::text(ops))?,
         }
         f.write_str(&hex(&self.bytes))
+    }
+}
+
+impl fmt::Display for List {
+    fn fmt(&self, f: &mut fmt::Formatter<'_>) -> fmt::Result {
+        let recording = u8::from(self.recording);
+        let updates = joined(self.updates.iter().map(Input::to_string), ",");
+        write!(f, "list {recording} {} {} {updates}", self.room, self.scene)
+    }
+}
+
+impl fmt::Display for Input {
+    fn fmt(&self, f: &mut fmt::Formatter<'_>) -> fmt::Result {
+        write!(f, "{}:{}", self.offset, hex(&self.bytes))
     }
 }
 

@@ -1,8 +1,8 @@
 //! Show files. Their header and the printed lines are document 01's, and the ranks are counted here;
 //! what the parts give is asked of the Rust.
 use crate::answer::{Answer, Outcome, Verdict};
-use crate::driver;
-use crate::request::{Call, Question, Request, Shape};
+use crate::driver::read;
+use crate::request::{Input, Question, Shape};
 
 /// The most bytes of a file, and the most parts.
 pub const GREATEST_FILE: usize = 65_536;
@@ -21,17 +21,6 @@ pub fn answer(file: &[u8]) -> Answer {
         return refused(24);
     };
     shown(printed(&parts))
-}
-
-/// The answer for a part, read from bit 0 with recording off.
-pub fn read(question: Question, part: &[u8]) -> Answer {
-    driver::answer(&Request::Call(Call {
-        question,
-        offset: 0,
-        recording: false,
-        room: 0,
-        bytes: part.to_vec(),
-    }))
 }
 
 /// The length of the header of so many parts.
@@ -57,7 +46,7 @@ fn answered(verdict: Verdict, text: String) -> Answer {
 }
 
 /// The parts of a file whose header is sound.
-fn parts(file: &[u8]) -> Option<Vec<&[u8]>> {
+pub fn parts(file: &[u8]) -> Option<Vec<&[u8]>> {
     let count = usize::from(u16::from_be_bytes(*file.first_chunk()?));
     if !(1..=GREATEST_PARTS).contains(&count) {
         return None;
@@ -81,7 +70,7 @@ fn printed(parts: &[&[u8]]) -> Result<String, Outcome> {
     let mut text = String::new();
     let mut question = Question::Scene;
     for (k, part) in parts.iter().enumerate() {
-        let answer = read(question, part);
+        let answer = read(question, Input::from(*part));
         text += &part_line(k, &answer)?;
         if k == 0 && answer.verdict.outcome != Outcome::Read {
             return Ok(text);

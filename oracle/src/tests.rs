@@ -3,7 +3,6 @@ use crate::answer::Answer;
 use crate::bits::Bits;
 use crate::driver::answer;
 use crate::request::Request;
-use crate::table::Table;
 use crate::text::hex;
 
 fn ask(line: &str) -> Answer {
@@ -49,6 +48,80 @@ fn show_parts() {
         ask(&format!("update 0 0 0 {freed} c100")).to_string(),
         "update read 0 13 8 0 1:0:0:0:2:0,1:0:0:0:0:0 -"
     );
+}
+
+/// The answers of a list's packets.
+fn packets(line: &str) -> Vec<String> {
+    let text = ask(line).to_string();
+    let (head, packets) = text.split_at("list read 0 0 N 0 - ".len());
+    let packets: Vec<String> = packets.split('|').map(String::from).collect();
+    assert_eq!(head, format!("list read 0 0 {} 0 - ", packets.len()));
+    packets
+}
+
+/// Document 01's show and an offset past the end, at other bits: an update meets what the packets
+/// before it left.
+#[test]
+fn lists() {
+    let before = "1:0:0:0:0:0,1:0:0:0:1:0";
+    let freed = "1:0:0:0:0:0,1:0:0:0:0:0";
+    assert_eq!(
+        packets("list 0 0 0:0a0080800080 0:c100,3:ee00,9:-,1:6080"),
+        [
+            format!("scene read 0 48 20 2 {before} -"),
+            format!("update refused 9 13 8 0 {before} -"),
+            format!("update read 0 10 7 0 {freed} -"),
+            format!("update refused 3 0 0 0 {freed} -"),
+            "update read 0 14 8 0 1:0:0:0:2:0,1:0:0:0:0:0 -".into(),
+        ]
+    );
+}
+
+#[test]
+fn lists_without_shapes() {
+    let empty = ["scene refused 6 6 1 0 - -", "update read 0 5 0 0 - -"];
+    assert_eq!(packets("list 0 0 0:04 5:ff"), empty);
+    assert_eq!(packets("list 0 0 0:04 -"), empty[..1]);
+}
+
+/// The first update has the most fields, 24. If it is refused for its room, the second one meets the
+/// shapes of the scene and closes a circle.
+#[test]
+fn room_for_fields_of_a_list() {
+    let numbers = |record: &str| -> Vec<u8> {
+        let list = ask(&format!(
+            "list {record} 0:0a0080800080 0:7220010008004000,0:c100"
+        ));
+        let packets = list.packets.iter();
+        packets.map(|packet| packet.verdict.number).collect()
+    };
+    assert_eq!(numbers("1 120"), [0, 0, 0]);
+    assert_eq!(numbers("1 119"), [0, 5, 9]);
+    assert_eq!(numbers("0 119"), [0, 0, 0]);
+}
+
+#[test]
+fn lines_of_lists() {
+    for line in [
+        "list 0 0 0:00 -",
+        "list 1 9 7:- 0:-,18446744073709551615:0a",
+    ] {
+        let list = Request::parse(line).expect("a request");
+        assert_eq!(list.to_string(), line);
+    }
+    for line in [
+        "list 0 0 0:00",
+        "list 0 0 - -",
+        "list 0 0 00 -",
+        "list 0 0 0:00 00",
+        "list 0 0 0:00 0:00,",
+        "list 0 0 0:00 0:00,-",
+        "list 0 0 0:00 0:00 0:00",
+        "list 0 0 0 0:00 -",
+        "list 2 0 0:00 -",
+    ] {
+        assert!(Request::parse(line).is_err(), "{line}");
+    }
 }
 
 #[test]
@@ -184,18 +257,6 @@ fn shows() {
     for line in ["show", "show 0", "show 00 00", "show 0 0 0 00"] {
         assert!(Request::parse(line).is_err(), "{line}");
     }
-}
-
-#[test]
-fn table_of_shows() {
-    let mut table = Table::default();
-    let mut count = |line| table.count(line).expect("an answer");
-    (0..4).for_each(|_| count("show refused 23 0 16 0 - file refused 23/"));
-    (0..5).for_each(|_| count("show refused 24 0 16 0 - file refused 24/"));
-    assert_eq!(table.rare(), ["show 23"]);
-    assert!(!table.is_odd());
-    table.count("show disagree 0 0 0 0 - -").expect("an answer");
-    assert!(table.is_odd());
 }
 
 #[test]

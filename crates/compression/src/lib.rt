@@ -83,7 +83,7 @@ fn codewords(bytes: &[u8], words: &mut [u64], s: State, q: u64, n: u64) -> State
 {
     let mut t = s;
     let mut j: u64 = 0;
-    while j < n {
+    while j < n && t.is_read() {
         t = codeword(bytes, words, t, q, j);
         j += 1;
     }
@@ -157,7 +157,7 @@ fn each_table(bytes: &[u8], words: &mut [u64], s: State, kind: u64, n: u64) -> S
 {
     let mut t = s;
     let mut i: u64 = 0;
-    while i < n {
+    while i < n && t.is_read() {
         t = table(bytes, words, t, kind, i);
         i += 1;
     }

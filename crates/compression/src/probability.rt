@@ -74,7 +74,7 @@ fn sum_floats(bytes: &[u8], words: &mut [u64], s: State, q: u64, n: u64) -> Summ
     let mut t = s;
     let mut sum: f32 = 0.0;
     let mut j: u64 = 0;
-    while j < n {
+    while j < n && t.is_read() {
         let v = add_float(bytes, words, t, q, j, sum);
         t = v.state;
         sum = v.sum;
@@ -137,7 +137,7 @@ fn sum_integers(bytes: &[u8], words: &mut [u64], s: State, q: u64, w: usize, n: 
     let mut t = s;
     let mut sum: u64 = 0;
     let mut j: u64 = 0;
-    while j < n {
+    while j < n && t.is_read() {
         let v = add_integer(bytes, words, t, q, w, j, sum);
         t = v.state;
         sum = v.value;

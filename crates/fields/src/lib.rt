@@ -81,7 +81,7 @@ pub fn set_end(bytes: &[u8], s: State, x: usize) -> State
 }
 
 // `invalid`: refused by `number`.
-pub fn invalid(s: State, number: u64) -> State
+pub fn invalid(s: State, number: u16) -> State
     requires { ⌜ Sound s ⌝ }
     ensures { λ r. ⌜ MetAlone (invalid number) s tt r ⌝ }
 {
@@ -92,7 +92,7 @@ pub fn invalid(s: State, number: u64) -> State
 }
 
 // `stop`: stopped by `number`.
-pub fn stop(s: State, number: u64) -> State
+pub fn stop(s: State, number: u16) -> State
     requires { ⌜ Sound s ⌝ }
     ensures { λ r. ⌜ MetAlone (stop number) s tt r ⌝ }
 {
@@ -103,7 +103,7 @@ pub fn stop(s: State, number: u64) -> State
 }
 
 // `invalid`, unless `ok`.
-pub fn demand(s: State, ok: bool, number: u64) -> State
+pub fn demand(s: State, ok: bool, number: u16) -> State
     requires { ⌜ Sound s ⌝ }
     ensures { λ r. ⌜ MetAlone (demand ok (refused number)) s tt r ⌝ }
 {
@@ -350,7 +350,7 @@ pub fn drc_count(
 
 // What every entry asks: 1; its own questions, of which `own` is the number of the first that is not met, or 0; and 3.
 // The reading is then at bit `offset` of the input.
-pub fn entry(bytes: &[u8], s: State, own: u64, offset: usize) -> State
+pub fn entry(bytes: &[u8], s: State, own: u16, offset: usize) -> State
     requires { ⌜ Sound s ⌝ }
     ensures { λ r. ⌜ MetByBytes (entry (length (now (bytes .entry))) own offset) (now (bytes .entry)) s tt r ⌝ }
 {

@@ -47,8 +47,8 @@ fn outcome_number(outcome: Outcome) -> u64
 {
     match outcome {
         Outcome::Read => 0,
-        Outcome::Refused(number) => number,
-        Outcome::Stopped(number) => number,
+        Outcome::Refused(number) => number as u64,
+        Outcome::Stopped(number) => number as u64,
     }
 }
 

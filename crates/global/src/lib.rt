@@ -193,7 +193,7 @@ fn speakers(bytes: &[u8], words: &mut [u64], s: State, p: u64, n: u64) -> State
 {
     let mut t = s;
     let mut i: u64 = 0;
-    while i < n {
+    while i < n && t.is_read() {
         t = speaker(bytes, words, t, p + Field::THIRD * i);
         i += 1;
     }
@@ -270,7 +270,7 @@ fn channels(bytes: &[u8], words: &mut [u64], s: State, p: u64, n: u64) -> State
 {
     let mut t = s;
     let mut i: u64 = 0;
-    while i < n {
+    while i < n && t.is_read() {
         t = common::number(bytes, words, t, p + leaf::CHANNELS + Field::THIRD * i, 3);
         i += 1;
     }

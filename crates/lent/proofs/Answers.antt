@@ -10,13 +10,14 @@ use lib.ListN.{length, take}
 use Rattle.rules.specs.declared.Answer.{Answer}
 use Rattle.rules.specs.Reading.{Reading, Input, isRead}
 use Rattle.rules.specs.Answer.{answerOf, outcomeOf, Answered}
+use Rattle.rules.specs.Met.{Gives}
 use Rattle.rules.proofs.Laws.{never}
-use Rattle.rules.proofs.Answers.{value-unread, value-of-read, entry-any, entry-unread}
+use Rattle.rules.proofs.Answers.{value-unread, value-of-read, answerIn, answered-read, answered-ended, entry-any, entry-unread}
 use Rattle.position.specs.declared.PositionSyntax.{PositionSyntax}
 use Rattle.position.specs.Entry.{positionReading}
 use Rattle.validation.specs.Validation.{validationReading}
-use Rattle.update.specs.declared.UpdateAnswer.{UpdateAnswer}
-use Rattle.update.specs.Update.{graphUpdate, updateReading, UpdateAnswered}
+use Rattle.scene.specs.declared.TakenShapes.{TakenShapes}
+use Rattle.update.specs.Update.{graphUpdate, shapesQuestion, updateReading, UpdateGiven}
 
 -- what the code's own test says of a reading: `b` is whether its answer is read
 module _ {A : Type 0} {x : Reading A} {a v : A} {rec : Bool} {ws vs : List ℕ} {r : Answer} (m : Answered x a rec ws r v vs) {b : Bool} (e : b ≡ isRead (r .outcome)) where
@@ -53,18 +54,30 @@ module _ (shapes array : List PositionSyntax) (copy : length shapes ≤ 63 → t
   of-copy : {B : Type 0} (f : List PositionSyntax → B) → (leb count 63 ≡ false → f (take count array) ≡ f shapes) → f (take count array) ≡ f shapes
   of-copy f = by-count (λ h. ap f (copy h))
 
+  -- the number of question 2 is that of the copy too
+  pub same-question : {n : ℕ} → n ≡ shapesQuestion count shapes → n ≡ shapesQuestion count (take count array)
+  same-question q = q ∙ sym (of-copy (shapesQuestion count) (λ e. rw e))
+
   module _ (i : Input) (offset : ℕ) where
     same-reading : updateReading i offset count (take count array) ≡ updateReading i offset count shapes
     same-reading = of-copy (updateReading i offset count) (λ e. rw e (entry-any i 2 offset (graphUpdate (take count array)) (λ z. omega arith) (graphUpdate shapes)))
 
-    module _ {rec : Bool} {ws vs : List ℕ} {r : UpdateAnswer} (m : UpdateAnswered (updateReading i offset count (take count array)) count array rec ws r vs) where
-      -- the same answer, of the lent shapes
-      pub of-shapes : Answered (updateReading i offset count shapes) (take count array) rec ws (r .answer) (take count (r .shapes)) vs
-      of-shapes = rw (← same-reading) (m .answered)
+    -- an update, whose state tells the answer: `b` is whether it was read
+    module _ {rec : Bool} {ws vs : List ℕ} {r : TakenShapes} (m : UpdateGiven (updateReading i offset count (take count array)) count array rec ws r vs) {a : Answer} (e : a ≡ answerIn (r .state)) {b : Bool} (t : b ≡ isRead (r .state .outcome)) where
+      given : Gives (updateReading i offset count shapes) rec 0 ws (take count (r .shapes)) (r .state) vs
+      given = rw (← same-reading) (m .given)
 
-      -- an update that was read has at most 63
-      pub few : {b : Bool} → b ≡ isRead (r .answer .outcome) → b ≡ true → length shapes ≤ 63
-      few e h = by-count (λ l. l) (λ q. never (sym (told of-shapes e) ∙ h) (rw q (entry-unread i 2 offset (graphUpdate shapes) (λ z. omega arith))))
+      pub update-read : {u : List PositionSyntax} → b ≡ true → u ≡ take count (r .shapes) → Answered (updateReading i offset count shapes) shapes rec ws a u vs
+      update-read h p = rw p (answered-read shapes given e (sym t ∙ h))
+
+      pub update-ended : b ≡ false → Answered (updateReading i offset count shapes) shapes rec ws a shapes vs
+      update-ended h = answered-ended shapes given e (sym t ∙ h)
+
+      -- one that was read has at most 63 shapes
+      pub few : b ≡ true → length shapes ≤ 63
+      few h =
+          let same = told (update-read h refl) (t ∙ sym (ap (λ (x : Answer). isRead (x .outcome)) e)) in
+          by-count (λ l. l) (λ q. never (sym same ∙ h) (rw q (entry-unread i 2 offset (graphUpdate shapes) (λ z. omega arith))))
 
   pub validated : (at : ℕ) {r : Answer} → r ≡ answerOf (validationReading count (take count array) at) → r ≡ answerOf (validationReading count shapes at)
   unfolding validationReading

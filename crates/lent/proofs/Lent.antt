@@ -2,6 +2,8 @@
 -- functions that are lent one.
 pub mod «shape_of»
 pub mod «set_shape»
+pub mod «shape_at»
+pub mod question
 pub mod «array_of»
 pub mod «write_back»
 pub mod «read_position»

@@ -5,11 +5,11 @@ use rules::Answer;
 use rules::State;
 ghost use mathlib.Core.Path.{_≡_};
 ghost use Prim.Native.Nat.{_≤_};
-ghost use lib.ListN.{length, take};
+ghost use lib.ListN.{length, getD, take};
 ghost use Rattle.rules.specs.Answer.{inputOf, answerOf, Answered};
 ghost use Rattle.position.specs.Entry.{positionReading};
 ghost use Rattle.validation.specs.Validation.{validationReading};
-ghost use Rattle.update.specs.Update.{updateReading};
+ghost use Rattle.update.specs.Update.{shapesQuestion, updateReading};
 
 // The lent shape, and another in its place.
 fn shape_of(shape: &PositionSyntax) -> PositionSyntax
@@ -22,6 +22,36 @@ fn set_shape(shape: &mut PositionSyntax, to: PositionSyntax)
     ensures { λ _. ⌜ now (shape .exit) ≡ to ⌝ }
 {
     *shape = to;
+}
+
+// Lent shape `i`, or `none` past the last.
+fn shape_at(shapes: &[PositionSyntax], i: usize, none: PositionSyntax) -> PositionSyntax
+    ensures { λ r. ⌜ r ≡ getD (now (shapes .entry)) i none ⌝ }
+{
+    if i < shapes.len() {
+        return shapes[i];
+    }
+    none
+}
+
+// Question 2 of the lent shapes: its number, or 0 if it is met.
+fn question(shapes: &[PositionSyntax]) -> u16
+    ensures { λ r. ⌜ r ≡ shapesQuestion (length (now (shapes .entry))) (now (shapes .entry)) ⌝ }
+{
+    let count = shapes.len();
+    if count > State::POSITIONS {
+        return 2;
+    }
+    let none = PositionSyntax::default();
+    let mut i: usize = 0;
+    while i < count {
+        let shape = shape_at(&shapes[..], i, none);
+        if !shape.is_shaped() {
+            return 2;
+        }
+        i += 1;
+    }
+    0
 }
 
 // At most 63 lent shapes as an array, with `none` after the last. More are not copied: they are refused whatever they are.
@@ -78,7 +108,7 @@ pub fn read_position(
     answer
 }
 
-// `update::graph_update`, of all the lent shapes.
+// `update::graph_update`, of all the lent shapes, which are themselves those from before.
 pub fn graph_update(
     bytes: &[u8],
     offset: usize,
@@ -91,10 +121,11 @@ pub fn graph_update(
     let count = shapes.len();
     let none = PositionSyntax::default();
     let before = array_of(&shapes[..], none);
-    let a = update::graph_update(bytes, offset, recording, &mut words[..], before, count);
-    let answer = a.answer;
-    let outcome = answer.outcome;
-    if outcome.is_read() {
+    let own = question(&shapes[..]);
+    let a = update::read_update(bytes, offset, recording, &mut words[..], before, count, own);
+    let t = a.state;
+    let answer = t.answer();
+    if t.is_read() {
         let next = a.shapes;
         write_back(&mut shapes[..], next);
     }

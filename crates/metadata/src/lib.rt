@@ -96,7 +96,7 @@ fn each_parameter(bytes: &[u8], words: &mut [u64], s: State, n: u64) -> State
 {
     let mut t = s;
     let mut i: u64 = 0;
-    while i < n {
+    while i < n && t.is_read() {
         t = parameter(bytes, words, t, i);
         i += 1;
     }
@@ -187,7 +187,7 @@ fn each_channel_index(bytes: &[u8], words: &mut [u64], s: State, q: u64, n: u64)
 {
     let mut t = s;
     let mut i: u64 = 0;
-    while i < n {
+    while i < n && t.is_read() {
         t = metadata_number(
             bytes,
             words,
@@ -293,7 +293,7 @@ fn each_group(bytes: &[u8], words: &mut [u64], s: State, n: u64) -> State
 {
     let mut t = s;
     let mut i: u64 = 0;
-    while i < n {
+    while i < n && t.is_read() {
         t = group(bytes, words, t, i);
         i += 1;
     }

@@ -101,7 +101,7 @@ fn put_name(out: &mut [u8], at: usize, word: u64) -> usize
     put_leaf(out, leaf, word)
 }
 
-fn refused(number: u64) -> TextAnswer
+fn refused(number: u16) -> TextAnswer
     ensures { λ r. ⌜ r ≡ record { outcome = Outcome.Refused number; position = 0; length = 0 } ⌝ }
 {
     let outcome = Outcome::Refused(number);

@@ -136,7 +136,7 @@ fn each_band(
 {
     let mut t = s;
     let mut i: u64 = 0;
-    while i < n {
+    while i < n && t.is_read() {
         t = band(bytes, words, t, p + Field::THIRD * i, kind, width);
         i += 1;
     }
@@ -244,7 +244,7 @@ fn sizes(bytes: &[u8], words: &mut [u64], s: State, p: u64, n: u64) -> Taken
     let mut t = s;
     let mut entries: u64 = 0;
     let mut i: u64 = 0;
-    while i < n {
+    while i < n && t.is_read() {
         let a = size(bytes, words, t, p, i, entries);
         t = a.state;
         entries = a.value;

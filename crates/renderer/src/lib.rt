@@ -140,7 +140,7 @@ fn each_region(bytes: &[u8], words: &mut [u64], s: State, q: u64, cartesian: boo
 {
     let mut t = s;
     let mut j: u64 = 0;
-    while j < n {
+    while j < n && t.is_read() {
         t = region(bytes, words, t, q + Field::THIRD * j, cartesian);
         j += 1;
     }
@@ -442,7 +442,7 @@ fn each_parameter(bytes: &[u8], words: &mut [u64], s: State, g: u64, n: u64) -> 
 {
     let mut t = s;
     let mut i: u64 = 0;
-    while i < n {
+    while i < n && t.is_read() {
         t = parameter(
             bytes,
             words,

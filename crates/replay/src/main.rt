@@ -141,6 +141,14 @@ fn limited(x: usize) -> usize
     x
 }
 
+// A number of 16 bits, which all numbers of refusals and stops have.
+fn short(x: usize) -> u16 {
+    if 65535 < x {
+        return 65535;
+    }
+    x as u16
+}
+
 // The operations that make none: a count, a window, a refusal, a stop.
 fn question(bytes: &[u8], s: State, o: Operation) -> State
     requires { ⌜ Sound s ⌝ }
@@ -159,10 +167,10 @@ fn question(bytes: &[u8], s: State, o: Operation) -> State
         return fields::set_end(bytes, s, limited(o.a));
     }
     if code == 7 {
-        return fields::invalid(s, o.a as u64);
+        return fields::invalid(s, short(o.a));
     }
     if code == 8 {
-        return fields::stop(s, o.a as u64);
+        return fields::stop(s, short(o.a));
     }
     s
 }
@@ -209,8 +217,8 @@ fn agrees(head: &[u8; 34], answer: Answer) -> bool {
     let told = number(head, 21, 1);
     let same = match outcome {
         Outcome::Read => kind == 0 && told == 0,
-        Outcome::Refused(n) => kind == 1 && told == n,
-        Outcome::Stopped(n) => kind == 2 && told == n,
+        Outcome::Refused(n) => kind == 1 && told == n as u64,
+        Outcome::Stopped(n) => kind == 2 && told == n as u64,
     };
     same
         && number(head, 22, 8) == answer.position as u64

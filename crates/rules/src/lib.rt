@@ -6,11 +6,12 @@ ghost use Rattle.rules.specs.Words.{kindOf, numberOf, isValue, valueFrom
 pub mod block;
 pub mod leaf;
 
-// How a reading ended. In a state, `Read` is all that was asked so far.
+// How a reading ended, with document 01's number. In a state, `Read` is all that was asked so far. A number of 16 bits
+// leaves a state without gaps: a gap of seven bytes is copied in two pieces, slowly, wherever a state is.
 pub enum Outcome {
     Read,
-    Refused(u64),
-    Stopped(u64),
+    Refused(u16),
+    Stopped(u16),
 }
 
 impl Outcome {

@@ -1,17 +1,19 @@
--- The loop over positions: at its start, after one more, and at its end.
-use Prim.Native.Nat.{ℕ, _+_, _<_, _≤_}
+-- The loop over positions: at its start, after one more, at its end, and where the reading has ended.
+use Prim.Native.Nat.{ℕ, _+_, _-_, _<_, _≤_}
 use mathlib.Core.Path.{_≡_, refl, sym, ap, _∙_, subst, fun-ext}
 use mathlib.Core.List.{List, [], _∷_, _++_, append-nil}
+use mathlib.Core.Bool.{Bool, false}
 use native.Mathlib.Omega.{arith}
 use native.Mathlib.Numerals.{add-one}
 use lib.ListN.{length, getD, take, drop, set, length-set, drop-of-length-le}
 use lib.Seq.{length-take-le, take-suc-set, append-snoc, drop-cons, drop-set-lt, drop-drop, getD-take, getD-drop}
 use Rattle.rules.specs.declared.State.{State}
 use Rattle.rules.specs.Rule.{Rule, done, _>>=_}
+use Rattle.rules.specs.Reading.{isRead}
 use Rattle.rules.specs.Derived.{each}
 use Rattle.rules.specs.Met.{Met, Sound}
 use Rattle.rules.proofs.Bind.{bind-done}
-use Rattle.rules.proofs.Left.{Left, left-all}
+use Rattle.rules.proofs.Left.{Left, left-all, left-over}
 use Rattle.rules.proofs.Each.{each-more, each-none}
 use Rattle.rules.proofs.Laws.{last-as}
 
@@ -48,6 +50,14 @@ module _ {A : Type 0} (f : ℕ → A → Rule A) (count : ℕ) (before : List A)
         let z : i + 0 ≡ i = omega arith in
         let same : getD (drop i next) 0 d ≡ getD (drop i before) 0 d = ap (λ (l : List A). getD l 0 d) (x .others) in
         rw (getD-drop i next 0 d, getD-drop i before 0 d, z) at same
+
+    pub reached-over : {b : Bool} → b ≡ isRead (t .outcome) → b ≡ false → Met (each f 0 (take count before)) bs ws s (take count next) t vs
+    reached-over e h = left-over (x .left) e h
+
+    pub others-kept : drop count next ≡ drop count before
+    others-kept =
+        let z : i + (count - i) ≡ count = omega (arith, x .most) in
+        rw z at (sym (drop-drop (count - i) i next) ∙ (ap (drop (count - i)) (x .others) ∙ drop-drop (count - i) i before))
 
     module _ (m : count ≤ length before) where
       first-left : i < count → drop i (take count before) ≡ getD next i d ∷ drop (i + 1) (take count before)

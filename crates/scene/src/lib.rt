@@ -118,7 +118,7 @@ pub fn positions(
     let mut next = shapes;
     let mut t = s;
     let mut i: usize = 0;
-    while i < count {
+    while i < count && t.is_read() {
         let shape = next[i];
         let a = position_at(bytes, words, t, i as u64, shape, full);
         t = a.state;
@@ -185,6 +185,15 @@ pub fn read_scene(bytes: &[u8], offset: usize, recording: bool, words: &mut [u64
     let t = a.state;
     let answer = t.answer();
     if t.is_read() {
+        let shapes = a.shapes;
+        return SceneAnswer {
+            answer,
+            count: a.count,
+            shapes,
+        };
+    }
+    // no position was read, and the shapes are still the default
+    if a.count == 0 {
         let shapes = a.shapes;
         return SceneAnswer {
             answer,

@@ -65,7 +65,7 @@ fn is_sound(file: &[u8]) -> bool
 }
 
 // Questions 23 and 24: the number of the first that is not met, or 0.
-pub fn file_question(file: &[u8]) -> u64
+pub fn file_question(file: &[u8]) -> u16
     ensures { λ r. ⌜ r ≡ fileQuestion (now (file .entry)) ⌝ }
 {
     if BYTES < file.len() {

@@ -41,8 +41,8 @@ fn put_told(out: &mut [u8], at: usize, answer: Answer) -> usize
             b" fields ",
             answer.fields as u64,
         ),
-        Outcome::Refused(number) => put_two(out, at, b" refused ", number, b" at ", position),
-        Outcome::Stopped(number) => put_two(out, at, b" stopped ", number, b" at ", position),
+        Outcome::Refused(n) => put_two(out, at, b" refused ", n as u64, b" at ", position),
+        Outcome::Stopped(n) => put_two(out, at, b" stopped ", n as u64, b" at ", position),
     }
 }
 
@@ -72,9 +72,9 @@ pub fn put_position(out: &mut [u8], at: usize, i: usize, parent: usize, rank: us
 }
 
 // Puts the line of a refused file.
-pub fn put_refused(out: &mut [u8], at: usize, number: u64) -> usize
+pub fn put_refused(out: &mut [u8], at: usize, number: u16) -> usize
     requires { ⌜ at + length (line (("file refused ", number) ∷ [])) ≤ length (now out) ⌝ }
     ensures { λ r. ⌜ Put (now (out .entry)) at (line (("file refused ", number) ∷ [])) r (now (out .exit)) ⌝ }
 {
-    put_last(out, at, b"file refused ", number)
+    put_last(out, at, b"file refused ", number as u64)
 }

@@ -7,10 +7,12 @@ use lib.Dec.{leb}
 use lib.ListN.{take, drop}
 use Rattle.rules.specs.Rule.{Rule, _>>=_, pick}
 use Rattle.rules.specs.Reading.{Reading, Input}
+use Rattle.rules.specs.Met.{Gives}
 use Rattle.rules.specs.Answer.{entryReading, Answered}
 use Rattle.position.specs.declared.PositionSyntax.{PositionSyntax}
 use Rattle.position.specs.Entry.{isShaped}
 use Rattle.validation.specs.Validation.{ifValid}
+use Rattle.scene.specs.declared.TakenShapes.{TakenShapes}
 use Rattle.scene.specs.Positions.{positions}
 use Rattle.update.specs.declared.UpdateAnswer.{UpdateAnswer}
 
@@ -36,6 +38,12 @@ shapesQuestion count shapes = pick (mayUpdate count shapes) 0 2
 -- an update of `count` shapes
 abbrev pub updateReading : Input → ℕ → ℕ → List PositionSyntax → Reading (List PositionSyntax)
 updateReading i offset count shapes = entryReading i (shapesQuestion count shapes) offset (graphUpdate shapes)
+
+-- What its reading gives, before it is decided whether it counts: the first `count` shapes as far as they were read, and
+-- the others as they came.
+pub record UpdateGiven (x : Reading (List PositionSyntax)) (count : ℕ) (shapes : List PositionSyntax) (rec : Bool) (ws : List ℕ) (r : TakenShapes) (vs : List ℕ) : Type 0 where
+  pub given : Gives x rec 0 ws (take count (r .shapes)) (r .state) vs
+  pub others : drop count (r .shapes) ≡ drop count shapes
 
 -- The answer: the first `count` shapes as they were read, as they came unless read, and the others as they came.
 pub record UpdateAnswered (x : Reading (List PositionSyntax)) (count : ℕ) (shapes : List PositionSyntax) (rec : Bool) (ws : List ℕ) (r : UpdateAnswer) (vs : List ℕ) : Type 0 where

@@ -6,14 +6,12 @@ use scene::TakenShapes;
 ghost use mathlib.Core.Path.{_≡_};
 ghost use Prim.Native.Nat.{ℕ, _≤_, _<_};
 ghost use lib.ListN.{length, getD, take};
-ghost use Rattle.rules.specs.Rule.{pick};
-ghost use Rattle.rules.specs.Reading.{isRead};
 ghost use Rattle.rules.specs.Met.{Sound};
 ghost use Rattle.rules.specs.Answer.{inputOf, entryThen};
 ghost use Rattle.position.specs.Shape.{default};
 ghost use Rattle.position.specs.Formed.{Shaped};
 ghost use Rattle.scene.specs.Positions.{Positioned};
-ghost use Rattle.update.specs.Update.{graphUpdate, allShaped, mayUpdate, shapesQuestion, updateReading, UpdateAnswered};
+ghost use Rattle.update.specs.Update.{graphUpdate, allShaped, shapesQuestion, updateReading, UpdateGiven, UpdateAnswered};
 
 // What an update answers: the shapes, which are as they came unless it was read.
 pub struct UpdateAnswer {
@@ -37,14 +35,17 @@ fn all_shaped(shapes: [PositionSyntax; 63], count: usize) -> bool
     true
 }
 
-// Whether question 2 is met.
-fn may_update(shapes: [PositionSyntax; 63], count: usize) -> bool
-    ensures { λ r. ⌜ r ≡ mayUpdate count (take count shapes) ⌝ }
+// Question 2: its number, or 0 if it is met.
+fn question(shapes: [PositionSyntax; 63], count: usize) -> u16
+    ensures { λ r. ⌜ r ≡ shapesQuestion count (take count shapes) ⌝ }
 {
-    if count <= State::POSITIONS {
-        return all_shaped(shapes, count);
+    if State::POSITIONS < count {
+        return 2;
     }
-    false
+    if all_shaped(shapes, count) {
+        return 0;
+    }
+    2
 }
 
 // The positions of an update, whose parents are validated after the last of them.
@@ -70,7 +71,7 @@ fn updated(
     }
 }
 
-// The questions of an entry, and an update.
+// The questions of an entry, of which `own` is the number of its own if that is not met, and an update.
 fn entered(
     bytes: &[u8],
     words: &mut [u64],
@@ -78,29 +79,38 @@ fn entered(
     offset: usize,
     shapes: [PositionSyntax; 63],
     count: usize,
+    own: u16,
 ) -> TakenShapes
     requires { ⌜ Sound s ⌝ }
+    requires { ⌜ own ≡ shapesQuestion count (take count shapes) ⌝ }
     ensures { λ r. ⌜ Positioned (entryThen (length (now (bytes .entry))) (shapesQuestion count (take count shapes)) offset (graphUpdate (take count shapes))) count (now (bytes .entry)) (now (words .entry)) s shapes (r .shapes) (r .state) (now (words .exit)) ⌝ }
 {
-    if may_update(shapes, count) {
-        let t = fields::entry(bytes, s, 0, offset);
+    let t = fields::entry(bytes, s, own, offset);
+    if own == 0 {
         return updated(bytes, words, t, shapes, count);
     }
-    let t = fields::entry(bytes, s, 2, offset);
     TakenShapes { state: t, shapes }
 }
 
-// The shapes after an update: it counts from its acceptance, or never.
-fn kept(t: State, before: [PositionSyntax; 63], next: [PositionSyntax; 63]) -> [PositionSyntax; 63]
-    ensures { λ r. ⌜ r ≡ pick (isRead (t .outcome)) next before ⌝ }
+// The reading of an update of the first `count` shapes, from the bit `offset` on, where question 2 is asked already. Its
+// shapes count only if it was read.
+pub fn read_update(
+    bytes: &[u8],
+    offset: usize,
+    recording: bool,
+    words: &mut [u64],
+    shapes: [PositionSyntax; 63],
+    count: usize,
+    own: u16,
+) -> TakenShapes
+    requires { ⌜ own ≡ shapesQuestion count (take count shapes) ⌝ }
+    ensures { λ r. ⌜ UpdateGiven (updateReading (inputOf (now (bytes .entry)) recording (now (words .entry))) offset count (take count shapes)) count shapes recording (now (words .entry)) r (now (words .exit)) ⌝ }
 {
-    if t.is_read() {
-        return next;
-    }
-    before
+    let s = State::fresh(recording, 0);
+    entered(bytes, words, s, offset, shapes, count, own)
 }
 
-// An update of the first `count` shapes, from the bit `offset` on.
+// That update: it counts from its acceptance, or never.
 pub fn graph_update(
     bytes: &[u8],
     offset: usize,
@@ -111,14 +121,16 @@ pub fn graph_update(
 ) -> UpdateAnswer
     ensures { λ r. ⌜ UpdateAnswered (updateReading (inputOf (now (bytes .entry)) recording (now (words .entry))) offset count (take count shapes)) count shapes recording (now (words .entry)) r (now (words .exit)) ⌝ }
 {
-    let s = State::fresh(recording, 0);
-    let a = entered(bytes, words, s, offset, shapes, count);
+    let own = question(shapes, count);
+    let a = read_update(bytes, offset, recording, words, shapes, count, own);
     let t = a.state;
-    let next = a.shapes;
-    let after = kept(t, shapes, next);
+    let moved = a.shapes;
     let answer = t.answer();
-    UpdateAnswer {
-        answer,
-        shapes: after,
+    if t.is_read() {
+        return UpdateAnswer {
+            answer,
+            shapes: moved,
+        };
     }
+    UpdateAnswer { answer, shapes }
 }

@@ -43,7 +43,7 @@ fn climb(parents: &[usize], first: usize) -> Chain
 }
 
 // The number for a list of parents: the lowest-numbered position without a rank decides.
-fn judge(parents: &[usize]) -> u64
+fn judge(parents: &[usize]) -> u16
     ensures { λ r. ⌜ r ≡ verdict (now (parents .entry)) ⌝ }
 {
     let mut i = 0;
@@ -88,7 +88,7 @@ pub fn parents_of(shapes: [PositionSyntax; 63]) -> [usize; 63]
 }
 
 // The number for the first `count` shapes.
-fn verdict(shapes: [PositionSyntax; 63], count: usize) -> u64
+fn verdict(shapes: [PositionSyntax; 63], count: usize) -> u16
     requires { ⌜ count ≤ 63 ⌝ }
     ensures { λ r. ⌜ r ≡ verdict (parents (take count shapes)) ⌝ }
 {
@@ -110,7 +110,7 @@ pub fn validated(s: State, shapes: [PositionSyntax; 63], count: usize) -> State
 }
 
 // The answer at a position, with no fields: read if the number is 0, and refused by it otherwise.
-fn answer(number: u64, position: usize) -> Answer
+fn answer(number: u16, position: usize) -> Answer
     ensures { λ r. ⌜ r ≡ answerOf (reading noInput (demand (eqb number 0) (refused number)) position position 0) ⌝ }
 {
     if number == 0 {

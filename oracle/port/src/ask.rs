@@ -7,12 +7,16 @@ use gateway::{
     read_scene, validate_graph,
 };
 use oracle::answer::{Answer, Field};
-use oracle::request::{Call, Question, Request, Shape};
-use std::slice;
+use oracle::request::{Call, Input, List, Question, Request, Shape};
+use std::{iter, slice};
+
+/// The library's answer, and the shapes after the call.
+type Left = (gateway::Answer, Vec<Shape>);
 
 pub fn answer(request: &Request) -> Result<Answer, String> {
     match request {
         Request::Call(call) => answer_call(call),
+        Request::List(list) => answer_list(list),
         Request::Validation { at, shapes } => {
             let answer = validate_graph(&lent(shapes), *at as usize);
             Ok(Answer {
@@ -26,22 +30,48 @@ pub fn answer(request: &Request) -> Result<Answer, String> {
 }
 
 fn answer_call(call: &Call) -> Result<Answer, String> {
-    let mut words = Buffer::blank(call.room as usize);
-    let (answer, shapes) = asked(call, words.lent())?;
-    let recorded = if call.recording { answer.counted } else { 0 };
+    let kind = call.question.kind();
+    recorded(kind, call.recording, call.room, |words| asked(call, words))
+}
+
+/// The shapes that the scene declared are lent to one update after the other.
+fn answer_list(list: &List) -> Result<Answer, String> {
+    let (recording, room) = (list.recording, list.room);
+    let mut shapes = Buffer::holding(Vec::new());
+    let first = recorded("scene", recording, room, |words| {
+        let Input { offset, bytes } = &list.scene;
+        let scene = read_scene(bytes, *offset as usize, recording, words);
+        shapes = Buffer::holding(scene.shapes().to_vec());
+        Ok((scene.answer, declared(&scene)?))
+    });
+    let others = list.updates.iter().map(|Input { offset, bytes }| {
+        recorded("update", recording, room, |words| {
+            updated(bytes, *offset, recording, words, &mut shapes)
+        })
+    });
+    let packets: Result<Vec<Answer>, String> = iter::once(first).chain(others).collect();
+    packets.map(Answer::of_list)
+}
+
+/// The answer of a reading that is lent so many words for its fields.
+fn recorded(
+    kind: &'static str,
+    recording: bool,
+    room: u32,
+    read: impl FnOnce(&mut [u64]) -> Result<Left, String>,
+) -> Result<Answer, String> {
+    let mut words = Buffer::blank(room as usize);
+    let (answer, shapes) = read(words.lent())?;
+    let recorded = if recording { answer.counted } else { 0 };
     let words = words.written(recorded.saturating_mul(FIELD_WORDS))?;
     Ok(Answer {
-        kind: call.question.kind(),
-        verdict: verdict(answer)?,
         count: answer.counted,
-        shapes,
         fields: fields(words)?,
-        text: None,
+        ..Answer::bare(kind, verdict(answer)?, &shapes)
     })
 }
 
-/// The library's answer, and the shapes after the call.
-fn asked(call: &Call, words: &mut [u64]) -> Result<(gateway::Answer, Vec<Shape>), String> {
+fn asked(call: &Call, words: &mut [u64]) -> Result<Left, String> {
     let (bytes, offset, recording) = (&call.bytes, call.offset as usize, call.recording);
     match &call.question {
         Question::Scene => {
@@ -50,14 +80,13 @@ fn asked(call: &Call, words: &mut [u64]) -> Result<(gateway::Answer, Vec<Shape>)
         }
         Question::Update(given) => {
             let mut shapes = Buffer::holding(lent(given));
-            let answer = graph_update(bytes, offset, recording, words, shapes.lent());
-            Ok((answer, left(shapes.written(given.len())?)))
+            updated(bytes, call.offset, recording, words, &mut shapes)
         }
         Question::Position { full, shape } => {
             let mut shapes = Buffer::holding(lent(slice::from_ref(shape)));
             let shape = &mut shapes.lent()[0];
             let answer = read_position(bytes, offset, recording, words, shape, *full);
-            Ok((answer, left(shapes.written(1)?)))
+            Ok((answer, left(shapes.held()?)))
         }
         Question::Metadata => {
             let answer = read_metadata(bytes, offset, recording, words);
@@ -65,6 +94,18 @@ fn asked(call: &Call, words: &mut [u64]) -> Result<(gateway::Answer, Vec<Shape>)
         }
         Question::Fields(_) => Err("the library has no fields".into()),
     }
+}
+
+/// An update of lent shapes, all of them.
+fn updated(
+    bytes: &[u8],
+    offset: u64,
+    recording: bool,
+    words: &mut [u64],
+    shapes: &mut Buffer<PositionSyntax>,
+) -> Result<Left, String> {
+    let answer = graph_update(bytes, offset as usize, recording, words, shapes.lent());
+    Ok((answer, left(shapes.held()?)))
 }
 
 /// The shapes of a scene; those beyond its count must be the default.
@@ -102,19 +143,13 @@ fn field(words: &[u64]) -> Result<Field, String> {
 #[cfg(test)]
 mod tests {
     use super::*;
+    use crate::compare::agreed;
     use oracle::{driver, generate};
-
-    /// The answer of the port, which must be that of the Rust.
-    fn agreed(request: &Request) -> Answer {
-        let by_the_port = answer(request).expect("an answer");
-        let by_the_rust = driver::answer(request);
-        assert_eq!(by_the_port, by_the_rust, "{:.200}", request.to_string());
-        by_the_port
-    }
 
     /// Number, position and count of fields of a request line.
     fn end(line: &str) -> (u8, u64, usize) {
-        let answer = agreed(&Request::parse(line).expect("a request"));
+        let request = Request::parse(line).expect("a request");
+        let answer = agreed(&request).expect("the same answer");
         (answer.verdict.number, answer.verdict.position, answer.count)
     }
 
@@ -122,8 +157,8 @@ mod tests {
     fn corners_of_metadata() {
         for corner in generate::corners(1) {
             for request in &corner.requests {
-                let number = agreed(request).verdict.number;
-                assert_eq!(number, corner.number, "{}", corner.what);
+                let answer = agreed(request).expect("the same answer");
+                assert_eq!(answer.verdict.number, corner.number, "{}", corner.what);
             }
         }
     }
@@ -147,6 +182,26 @@ mod tests {
         assert_eq!(update(63), (0, 63, 63));
         assert_eq!(update(64), (2, 0, 0));
         assert_eq!(update(70), (2, 0, 0));
+    }
+
+    /// Document 01's show: its last update closes a circle, unless the one before it frees a position.
+    #[test]
+    fn shapes_of_a_list_are_carried_along() {
+        for (updates, numbers) in [
+            ("0:c100,0:70,0:c100", [0, 9, 0, 0]),
+            ("0:c100,1:70,0:c100", [0, 9, 0, 9]),
+        ] {
+            let list = format!("list 1 100 0:0a0080800080 {updates}");
+            let answer = agreed(&Request::parse(&list).expect("a request"));
+            let packets = answer.expect("the same answer").packets;
+            assert!(
+                packets
+                    .iter()
+                    .map(|packet| packet.verdict.number)
+                    .eq(numbers),
+                "{list}"
+            );
+        }
     }
 
     #[test]

@@ -63,6 +63,11 @@ impl<T: Blank> Buffer<T> {
         &mut self.places[MARGIN..][..self.room]
     }
 
+    /// All lent places. Those around them must be blank.
+    pub fn held(&self) -> Result<&[T], String> {
+        self.written(self.room)
+    }
+
     /// The first so many lent places. All other places must be blank.
     pub fn written(&self, count: usize) -> Result<&[T], String> {
         if count > self.room {
@@ -94,7 +99,7 @@ mod tests {
         let mut buffer = Buffer::holding(vec![3, 4]);
         assert_eq!(buffer.lent(), [3, 4]);
         buffer.lent()[1] = 5_u64;
-        assert_eq!(buffer.written(2), Ok([3, 5].as_slice()));
+        assert_eq!(buffer.held(), Ok([3, 5].as_slice()));
         assert!(buffer.written(1).is_err());
     }
 

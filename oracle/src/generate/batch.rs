@@ -1,6 +1,6 @@
 //! A growing list of requests.
-use crate::driver::{FIELD_WORDS, all_fields};
-use crate::request::{Call, Question, Request, Shape};
+use crate::driver::{FIELD_WORDS, all_fields, most_fields};
+use crate::request::{Call, Input, List, Question, Request, Shape};
 use crate::rng::Rng;
 
 pub struct Batch<'r> {
@@ -17,29 +17,9 @@ pub enum Record {
     Room(u32),
 }
 
-/// Bytes, and the bit at which their reading begins.
-#[derive(Clone)]
-pub struct Input {
-    pub offset: u64,
-    pub bytes: Vec<u8>,
-}
-
-impl Input {
-    /// The same bytes, read from another bit on.
-    pub fn at_bit(&self, offset: u64) -> Self {
-        Self {
-            offset,
-            bytes: self.bytes.clone(),
-        }
-    }
-}
-
-impl From<&[u8]> for Input {
-    fn from(bytes: &[u8]) -> Self {
-        Self {
-            offset: 0,
-            bytes: bytes.to_vec(),
-        }
+impl Record {
+    fn is_on(self) -> bool {
+        !matches!(self, Self::Off)
     }
 }
 
@@ -55,16 +35,28 @@ impl<'r> Batch<'r> {
         let mut call = Call {
             question: question.clone(),
             offset: input.offset,
-            recording: !matches!(record, Record::Off),
+            recording: record.is_on(),
             room: 0,
             bytes: input.bytes,
         };
-        call.room = match record {
-            Record::Off => self.rng.below(12) as u32,
-            Record::Ample => FIELD_WORDS * all_fields(&call).len() as u32 + self.few_words(),
-            Record::Room(words) => words,
-        };
+        call.room = self.room(record, || all_fields(&call).len());
         self.requests.push(Request::Call(call));
+    }
+
+    /// The list, with recording and room as told.
+    pub fn list(&mut self, mut list: List, record: Record) {
+        list.recording = record.is_on();
+        list.room = self.room(record, || most_fields(&list));
+        self.requests.push(Request::List(list));
+    }
+
+    /// The words that are lent, if so many fields are to be recorded.
+    fn room(&mut self, record: Record, fields: impl FnOnce() -> usize) -> u32 {
+        match record {
+            Record::Off => self.rng.below(12) as u32,
+            Record::Ample => FIELD_WORDS * fields() as u32 + self.few_words(),
+            Record::Room(words) => words,
+        }
     }
 
     pub fn validation(&mut self, at: u64, shapes: Vec<Shape>) {

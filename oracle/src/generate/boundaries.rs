@@ -1,5 +1,5 @@
 //! The worked examples and the limits that document 01 names, met exactly and missed by one.
-use super::batch::{Batch, Input, Record};
+use super::batch::{Batch, Record};
 use super::compression::{code_window, exact, flat_window, lzw_window, section};
 use super::draft::{Draft, drafted};
 use super::metadata::{self, Metadata, least_group, of_kind};
@@ -8,7 +8,7 @@ use super::renderer;
 use super::variants::Good;
 use crate::bits::Bits;
 use crate::driver::{GREATEST_COUNT, GREATEST_INPUT, GREATEST_PRECISION};
-use crate::request::{Question, Shape};
+use crate::request::{Input, Question, Shape};
 use crate::rng::Rng;
 use crate::text::unhex;
 

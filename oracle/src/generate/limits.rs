@@ -1,9 +1,9 @@
 //! Scripts that meet each limit of the parser's methods exactly, or miss it by one.
-use super::batch::{Batch, Input, Record};
+use super::batch::{Batch, Record};
 use super::scripts::WIDTHS;
 use crate::bits::Bits;
 use crate::driver::FIELD_WORDS;
-use crate::request::Question;
+use crate::request::{Input, Question};
 use crate::rng::Rng;
 use crate::script;
 use apac::numbers::{REFUSALS, STOPS};

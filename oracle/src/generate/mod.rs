@@ -6,8 +6,10 @@ mod corners;
 mod draft;
 mod labels;
 mod limits;
+mod lists;
 mod metadata;
 mod noise;
+mod packets;
 mod positions;
 mod renderer;
 mod sample;
@@ -25,7 +27,6 @@ use crate::request::Request;
 use crate::rng::Rng;
 use batch::Batch;
 use metadata::Metadata;
-use std::io::{self, Write};
 use std::ops::RangeInclusive;
 use variants::Good;
 
@@ -35,7 +36,7 @@ const SMALL: usize = 60;
 type Part = fn(&mut Batch<'_>);
 
 /// Asked once.
-const FIXED: [Part; 11] = [
+const FIXED: [Part; 12] = [
     short::short,
     boundaries::boundaries,
     corners::every_corner,
@@ -47,10 +48,11 @@ const FIXED: [Part; 11] = [
     words::every_template,
     words::every_pair,
     shows::fixed,
+    lists::fixed,
 ];
 
 /// Asked as often as the scale says, each time with other choices.
-const RANDOM: [Part; 8] = [
+const RANDOM: [Part; 9] = [
     noise::noise,
     scenes_and_updates,
     each_kind,
@@ -59,6 +61,7 @@ const RANDOM: [Part; 8] = [
     scripts::scripts,
     words::random,
     shows::random,
+    lists::random,
 ];
 
 /// The sample that is stored in the repository.
@@ -70,15 +73,25 @@ const SAMPLE: [Part; 5] = [
     shows::few,
 ];
 
-pub fn generate(seed: u64, scale: u64, out: &mut impl Write) -> io::Result<()> {
-    let mut rng = Rng::new(seed);
-    write_parts(&FIXED, &mut rng, out)?;
-    (0..scale).try_for_each(|_| write_parts(&RANDOM, &mut rng, out))
+/// The requests of one part after the other.
+pub fn generate(seed: u64, scale: u64) -> impl Iterator<Item = Vec<Request>> {
+    let random = (0..scale).flat_map(|_| RANDOM);
+    requests(FIXED.into_iter().chain(random), seed)
 }
 
-/// The requests of the sample that is stored in the repository.
-pub fn sample(seed: u64, out: &mut impl Write) -> io::Result<()> {
-    write_parts(&SAMPLE, &mut Rng::new(seed), out)
+/// Those of the sample that is stored in the repository.
+pub fn sample(seed: u64) -> impl Iterator<Item = Vec<Request>> {
+    requests(SAMPLE.into_iter(), seed)
+}
+
+/// The requests of the parts, which draw their random numbers one after the other.
+fn requests(parts: impl Iterator<Item = Part>, seed: u64) -> impl Iterator<Item = Vec<Request>> {
+    let mut rng = Rng::new(seed);
+    parts.map(move |part| {
+        let mut batch = Batch::new(&mut rng);
+        part(&mut batch);
+        batch.requests
+    })
 }
 
 /// A corner of a metadata configuration: what it is, its number, and requests that must give it.
@@ -102,17 +115,6 @@ pub fn corners(seed: u64) -> Vec<Asked> {
         }
     };
     list.into_iter().map(asked).collect()
-}
-
-fn write_parts(parts: &[Part], rng: &mut Rng, out: &mut impl Write) -> io::Result<()> {
-    for part in parts {
-        let mut batch = Batch::new(rng);
-        part(&mut batch);
-        for request in batch.requests {
-            writeln!(out, "{request}")?;
-        }
-    }
-    Ok(())
 }
 
 /// Scenes, updates and positions called alone.

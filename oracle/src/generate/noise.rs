@@ -1,8 +1,8 @@
 //! Bytes at random: uniform, mostly zeros, mostly ones.
-use super::batch::{Batch, Input};
+use super::batch::Batch;
 use super::positions::{some_shape, some_shapes};
 use crate::bits::Bits;
-use crate::request::Question;
+use crate::request::{Input, Question};
 use crate::rng::Rng;
 
 const ROUNDS: usize = 7_000;

@@ -1,7 +1,7 @@
 //! Short inputs: all of 0, 1 and 2 bytes, and some of them from every bit on.
-use super::batch::{Batch, Input, Record};
+use super::batch::{Batch, Record};
 use super::positions::{some_shape, some_shapes};
-use crate::request::{Question, Shape};
+use crate::request::{Input, Question, Shape};
 
 const PLAIN: [Question; 2] = [Question::Scene, Question::Metadata];
 

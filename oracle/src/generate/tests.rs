@@ -1,30 +1,23 @@
 //! Document 01's boundary list, and what holds of all that is generated.
-use super::batch::{Batch, Input};
+use super::batch::Batch;
 use super::draft::drafted;
 use super::positions::{EXTENSIONS, write_largest};
 use super::variants::Good;
-use super::{FIXED, Part, RANDOM, metadata, renderer, show_limits, shows, words};
+use super::{FIXED, Part, RANDOM, lists, metadata, renderer, show_limits, shows, words};
 use crate::answer::{Answer, Outcome};
-use crate::driver::answer;
+use crate::driver::{answer, read};
 use crate::names;
 use crate::record::record;
-use crate::request::{Call, Question, Request, Shape};
+use crate::request::{Input, List, Question, Request, Shape};
 use crate::rng::Rng;
+use crate::table::{Table, ends};
 use std::collections::BTreeSet;
+use std::ops::RangeInclusive;
 use std::sync::LazyLock;
 
 fn ask(good: &Good) -> Answer {
-    ask_at(good, Input::from(good.bits.bytes().as_slice()))
-}
-
-fn ask_at(good: &Good, input: Input) -> Answer {
-    answer(&Request::Call(Call {
-        question: good.question.clone(),
-        offset: input.offset,
-        recording: false,
-        room: 0,
-        bytes: input.bytes,
-    }))
+    let bytes = good.bits.bytes();
+    read(good.question.clone(), Input::from(bytes.as_slice()))
 }
 
 #[test]
@@ -60,7 +53,7 @@ fn corners() {
 fn offset(request: &Request) -> u64 {
     match request {
         Request::Call(call) => call.offset,
-        Request::Validation { .. } | Request::Name { .. } | Request::Show { .. } => 0,
+        _ => 0,
     }
 }
 
@@ -127,26 +120,18 @@ fn sample_is_bounded() {
     assert!(requests.iter().map(size).sum::<usize>() <= 3 << 20);
 }
 
-/// The numbers that each kind can end in. 1 would take an input of 8 MiB.
-const NUMBERS: [(&str, &[u8]); 6] = [
-    ("scene", &[0, 3, 5, 6, 7, 8, 9]),
-    ("update", &[0, 2, 3, 5, 7, 8, 9]),
-    ("position", &[0, 2, 3, 5, 7]),
-    ("validation", &[0, 2, 8, 9]),
-    (
-        "metadata",
-        &[
-            0, 3, 4, 5, 6, 7, 10, 11, 12, 13, 14, 15, 16, 17, 18, 19, 20, 21, 22, 31, 32, 33, 34,
-            35,
-        ],
-    ),
-    ("name", &[0, 25, 26]),
-];
-
 #[test]
 fn sample_reaches_every_number() {
     let answers: Vec<Answer> = sample().iter().map(answer).collect();
-    for (kind, numbers) in NUMBERS {
+    for kind in [
+        "scene",
+        "update",
+        "position",
+        "validation",
+        "metadata",
+        "name",
+    ] {
+        let numbers = ends(kind);
         let of_kind = answers.iter().filter(|answer| answer.kind == kind);
         let found: Vec<u8> = of_kind.map(|answer| answer.verdict.number).collect();
         let times = |number| found.iter().filter(|&&n| n == number).count();
@@ -293,11 +278,12 @@ fn fixed_shows() {
     }
 }
 
-/// What is asked after them stays as it was before there were shows.
+/// What is asked after them stays as it was before there were shows and lists.
 #[test]
-fn fixed_shows_take_no_random_numbers() {
+fn fixed_shows_and_lists_take_no_random_numbers() {
     let rng = &mut Rng::new(1);
     shows::fixed(&mut Batch::new(rng));
+    lists::fixed(&mut Batch::new(rng));
     assert_eq!(rng.next(), Rng::new(1).next());
 }
 
@@ -357,4 +343,70 @@ fn stored_shows_are_bounded() {
     let shows = requests.iter().filter(|request| request.kind() == "show");
     let size = |request| record(request).expect("an answer").len();
     assert!(shows.map(size).sum::<usize>() <= 450_000);
+}
+
+/// The random lists with the answers of their packets.
+static LISTS: LazyLock<Vec<(List, Vec<Answer>)>> = LazyLock::new(|| {
+    let listed = |request| match &request {
+        Request::List(list) => Some((list.clone(), answer(&request).packets)),
+        _ => None,
+    };
+    let requests = requests(lists::random).into_iter();
+    requests.filter_map(listed).collect()
+});
+
+#[test]
+fn lists_reach_every_number() {
+    let mut table = Table::default();
+    let fixed = requests(lists::fixed);
+    for answer in fixed.iter().map(answer) {
+        table.count(&answer).expect("an answer");
+    }
+    for (_, packets) in &*LISTS {
+        let answer = Answer::of_list(packets.clone());
+        table.count(&answer).expect("an answer");
+    }
+    assert!(table.is_sound(), "{table}");
+}
+
+/// Whether there is a list whose scene has so many positions, with so many updates.
+fn listed(positions: RangeInclusive<usize>, updates: RangeInclusive<usize>) -> bool {
+    LISTS.iter().any(|(list, packets)| {
+        packets[0].verdict.outcome == Outcome::Read
+            && positions.contains(&packets[0].shapes.len())
+            && updates.contains(&list.updates.len())
+    })
+}
+
+#[test]
+fn lists_reach_their_limits() {
+    for positions in [0..=0, 1..=1, 2..=5, 6..=62, 63..=63] {
+        for updates in [0..=0, 1..=12] {
+            let what = format!("{positions:?} {updates:?}");
+            assert!(listed(positions.clone(), updates), "{what}");
+        }
+    }
+    assert!(listed(1..=8, 13..=199) && listed(2..=63, 200..=200));
+    assert!(LISTS.iter().all(|(list, _)| list.updates.len() <= 200));
+}
+
+/// The shapes change often, also late in a long list, by packets from every bit of a byte on.
+#[test]
+fn lists_change_their_shapes() {
+    let mut offsets = BTreeSet::new();
+    let mut latest = 0;
+    for (list, packets) in &*LISTS {
+        for (k, pair) in packets.windows(2).enumerate() {
+            if pair[0].shapes != pair[1].shapes {
+                offsets.insert(list.updates[k].offset);
+                latest = latest.max(k);
+            }
+        }
+    }
+    assert!((0..8).all(|offset| offsets.contains(&offset)));
+    assert!(
+        offsets.len() >= 100 && latest >= 190,
+        "{} {latest}",
+        offsets.len()
+    );
 }

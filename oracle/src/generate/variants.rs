@@ -1,9 +1,9 @@
 //! What is asked around a good input: at other offsets, cut, damaged, with little room.
-use super::batch::{Batch, Input, Record};
+use super::batch::{Batch, Record};
 use crate::answer::Field;
 use crate::bits::Bits;
 use crate::driver::{FIELD_WORDS, all_fields};
-use crate::request::{Call, Question};
+use crate::request::{Call, Input, Question};
 use crate::rng::Rng;
 use apac::run::{Action, Op};
 

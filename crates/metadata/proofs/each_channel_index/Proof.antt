@@ -7,7 +7,7 @@ use lib.ListN.{length}
 use Rattle.rules.specs.Name.{third}
 use Rattle.rules.specs.Leaf as leaf
 use Rattle.rules.specs.Derived.{fold}
-use Rattle.rules.proofs.Left.{Left, left-all}
+use Rattle.rules.proofs.Left.{Left, left-all, left-over}
 use Rattle.rules.proofs.Fold.{fold-more, fold-none}
 use Rattle.metadata.specs.Metadata.{metadataNumber, eachChannelIndex}
 use Rattle.metadata.proofs.each_channel_index.Statement.{statement}
@@ -24,6 +24,9 @@ abbrev μ-loop : tie.MeasureT-loop
 loop-holds : tie.Need-loop-holds Inv-loop μ-loop
 unfolding eachChannelIndex
 loop-holds c = (omega arith, refl, rw sub-zero (left-all (search needs)))
+
+is-read-requires : tie.Need-is-read-requires Inv-loop μ-loop
+is-read-requires c κs = search needs
 
 add-metadata-number : tie.Need-add-metadata-number Inv-loop μ-loop
 add-metadata-number c = search needs
@@ -46,14 +49,20 @@ loop-less c = search needs
 loop-again : tie.Need-loop-again Inv-loop μ-loop
 loop-again c =
     let at-call = c .before .before in
-    let at-test = at-call .before .before in
+    let at-test = at-call .before .before .before .before in
     (omega arith, search needs, fold-more _ _ _ _ (at-test .before .loop .inv .2) (at-test .loop-test .taken) (at-call .metadata-number .ensures))
 
 same-length : tie.Need-same-length Inv-loop μ-loop
 same-length c = search needs
 
 returns : tie.Need-returns Inv-loop μ-loop
-returns c = fold-none _ _ _ _ (c .before .loop .inv .2) (c .loop-test .left)
+returns c = let at-test = c .before in left-over (at-test .before .before .loop .inv .2) (at-test .is-read .ensures) (c .if1 .left)
+
+same-length-2 : tie.Need-same-length-2 Inv-loop μ-loop
+same-length-2 c = search needs
+
+returns-2 : tie.Need-returns-2 Inv-loop μ-loop
+returns-2 c = fold-none _ _ _ _ (c .before .loop .inv .2) (c .loop-test .left)
 
 pub each-channel-index-spec : {M : Type 1} → statement M
 each-channel-index-spec =
@@ -62,6 +71,7 @@ each-channel-index-spec =
     Inv-loop
     μ-loop
     loop-holds
+    is-read-requires
     add-metadata-number
     mul-metadata-number
     add-metadata-number-2
@@ -70,4 +80,6 @@ each-channel-index-spec =
     loop-less
     loop-again
     same-length
-    returns)
+    returns
+    same-length-2
+    returns-2)

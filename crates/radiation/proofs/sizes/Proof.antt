@@ -5,7 +5,7 @@ use native.Mathlib.Nat.{sub-zero}
 use borrow.Author.Needs.{needs}
 use lib.ListN.{length}
 use Rattle.rules.specs.Derived.{fold}
-use Rattle.rules.proofs.Left.{Left, left-all}
+use Rattle.rules.proofs.Left.{Left, left-all, left-over}
 use Rattle.rules.proofs.Fold.{fold-more, fold-none}
 use Rattle.radiation.specs.Radiation.{size, sizes}
 use Rattle.radiation.proofs.sizes.Statement.{statement}
@@ -23,6 +23,9 @@ loop-holds : tie.Need-loop-holds Inv-loop μ-loop
 unfolding sizes
 loop-holds c = (omega arith, omega arith, refl, rw sub-zero (left-all (search needs)))
 
+is-read-requires : tie.Need-is-read-requires Inv-loop μ-loop
+is-read-requires c κs = search needs
+
 size-requires : tie.Need-size-requires Inv-loop μ-loop
 size-requires c κs = search needs
 
@@ -35,7 +38,7 @@ loop-less c = search needs
 loop-again : tie.Need-loop-again Inv-loop μ-loop
 loop-again c =
     let at-call = c .before .before .before in
-    let at-test = at-call .before .before in
+    let at-test = at-call .before .before .before .before in
     let inv = at-test .before .loop .inv in
     let read = at-call .size .ensures in
     (omega arith, omega (arith, inv .1, read .small), search needs, fold-more _ _ _ _ (inv .3) (at-test .loop-test .taken) (read .met))
@@ -45,6 +48,15 @@ same-length c = search needs
 
 returns : tie.Need-returns Inv-loop μ-loop
 returns c =
+    let at-test = c .before in
+    let inv = at-test .before .before .loop .inv in
+    record { met = left-over (inv .3) (at-test .is-read .ensures) (c .if1 .left); small = omega arith }
+
+same-length-2 : tie.Need-same-length-2 Inv-loop μ-loop
+same-length-2 c = search needs
+
+returns-2 : tie.Need-returns-2 Inv-loop μ-loop
+returns-2 c =
     let inv = c .before .loop .inv in
     record { met = fold-none _ _ _ _ (inv .3) (c .loop-test .left); small = omega arith }
 
@@ -55,9 +67,12 @@ sizes-spec =
     Inv-loop
     μ-loop
     loop-holds
+    is-read-requires
     size-requires
     add-i
     loop-less
     loop-again
     same-length
-    returns)
+    returns
+    same-length-2
+    returns-2)

@@ -32,18 +32,30 @@ returns c =
     let answered = answered-read [] gives (at-read .before .answer .ensures) (sym (at-read .is-read .ensures) ∙ c .before .if1 .taken) in
     scene-answered (read .taken .long ∙ defaults-length) (read .most) answered (read .taken .others)
 
-unread-requires : tie.Need-unread-requires
-unread-requires c κs = search needs
-
 same-length-2 : tie.Need-same-length-2
 same-length-2 c = search needs
 
 returns-2 : tie.Need-returns-2
 returns-2 c =
-    let at-read = c .before .before in
+    let at-read = c .before .before .before .before in
+    let at-call = at-read .before .before .before .before .before in
+    let read = at-call .entered .ensures in
+    let gives = call-gives _ _ _ (at-call .before .before .fresh .ensures) (read .taken .met) in
+    let answered = answered-ended [] gives (at-read .before .answer .ensures) (sym (at-read .is-read .ensures) ∙ c .before .before .before .if1 .left) in
+    scene-answered (read .taken .long ∙ defaults-length) (read .most) (rw (c .before .if2 .taken) answered) (read .taken .others)
+
+unread-requires : tie.Need-unread-requires
+unread-requires c κs = search needs
+
+same-length-3 : tie.Need-same-length-3
+same-length-3 c = search needs
+
+returns-3 : tie.Need-returns-3
+returns-3 c =
+    let at-read = c .before .before .before .before in
     let at-call = at-read .before .before .before .before .before in
     let gives = call-gives _ _ _ (at-call .before .before .fresh .ensures) (at-call .entered .ensures .taken .met) in
-    let answered = answered-ended [] gives (at-read .before .answer .ensures) (sym (at-read .is-read .ensures) ∙ c .before .if1 .left) in
+    let answered = answered-ended [] gives (at-read .before .answer .ensures) (sym (at-read .is-read .ensures) ∙ c .before .before .before .if1 .left) in
     rw (c .unread .ensures) (scene-answered defaults-length (omega arith) answered refl)
 
 pub read-scene-spec : {M : Type 1} → statement M
@@ -56,6 +68,8 @@ read-scene-spec =
     is-read-requires
     same-length
     returns
-    unread-requires
     same-length-2
-    returns-2)
+    returns-2
+    unread-requires
+    same-length-3
+    returns-3)

@@ -1,43 +1,54 @@
-use mathlib.Core.Path.{_≡_, refl}
-use native.Mathlib.Omega.{arith}
+use mathlib.Core.Path.{refl, sym, _∙_}
 use borrow.Author.Needs.{needs}
-use lib.ListN.{take, drop}
-use Rattle.rules.specs.Reading.{isRead}
-use Rattle.rules.proofs.Laws.{fresh-sound}
-use Rattle.rules.proofs.Answers.{call-gives, answered}
-use Rattle.rules.proofs.Pick.{by-pick}
+use Rattle.rules.proofs.Answers.{answered-read, answered-ended}
 use Rattle.update.proofs.graph_update.Statement.{statement}
 use Rattle.update.proofs.graph_update.Tie as tie
 
-fresh-requires : tie.Need-fresh-requires
-fresh-requires c κs = search needs
+question-requires : tie.Need-question-requires
+question-requires c κs = search needs
 
-entered-requires : tie.Need-entered-requires
-entered-requires c κs = fresh-sound (omega arith) (c .before .fresh .ensures)
-
-kept-requires : tie.Need-kept-requires
-kept-requires c κs = search needs
+read-update-requires : tie.Need-read-update-requires
+read-update-requires c κs = c .before .question .ensures
 
 answer-requires : tie.Need-answer-requires
 answer-requires c κs = search needs
+
+is-read-requires : tie.Need-is-read-requires
+is-read-requires c κs = search needs
 
 same-length : tie.Need-same-length
 same-length c = search needs
 
 returns : tie.Need-returns
 returns c =
-    let at-kept = c .before in
-    let at-call = at-kept .before .before .before .before .before in
-    let start = at-call .before .before .before .before .before in
-    let read = at-call .entered .ensures in
-    let gives = call-gives _ _ _ (at-call .before .before .fresh .ensures) (read .met) in
-    rw (at-kept .kept .ensures)
-    (record {
-      answered = answered _ gives (c .answer .ensures) (take (start .args .count)) (at-call .entered .result .shapes) (start .args .shapes) refl refl;
-      others = by-pick (λ l. drop (start .args .count) l ≡ drop (start .args .count) (start .args .shapes)) (isRead (at-call .entered .result .state .outcome)) _ _ (λ _. read .others) (λ _. refl);
-    })
+    let at-read = c .before in
+    let read = at-read .before .before .before .before .before .before .read-update .ensures in
+    record {
+      answered = answered-read _ (read .given) (at-read .before .answer .ensures) (sym (at-read .is-read .ensures) ∙ c .if1 .taken);
+      others = read .others;
+    }
+
+same-length-2 : tie.Need-same-length-2
+same-length-2 c = search needs
+
+returns-2 : tie.Need-returns-2
+returns-2 c =
+    let at-read = c .before in
+    let read = at-read .before .before .before .before .before .before .read-update .ensures in
+    record {
+      answered = answered-ended _ (read .given) (at-read .before .answer .ensures) (sym (at-read .is-read .ensures) ∙ c .if1 .left);
+      others = refl;
+    }
 
 pub graph-update-spec : {M : Type 1} → statement M
 graph-update-spec =
     tie.close
-    (tie.spec fresh-requires entered-requires kept-requires answer-requires same-length returns)
+    (tie.spec
+    question-requires
+    read-update-requires
+    answer-requires
+    is-read-requires
+    same-length
+    returns
+    same-length-2
+    returns-2)

@@ -58,7 +58,7 @@ abbrev pub r : Kinds.RK 3
 r = Value.rVal record { ty = Declared.row GatewayAnswer.the-type; one = Path'.refl; val = Laws''.val GatewayAnswer.the-type Laws.the-laws; tells = Laws''.tells GatewayAnswer.the-type Laws.the-laws; still = Laws''.still GatewayAnswer.the-type Laws.the-copy Exit.yes; row = Rows.whole (Declared.row GatewayAnswer.the-type); rd = λ x. x; mk = λ x. x } λ M 𝓤 H A W. record { copies = Laws''.copy GatewayAnswer.the-type Laws.the-copy 𝓤 H A W; lawful = Laws''.lawful GatewayAnswer.the-type Laws.the-laws 𝓤 H A W; makes = Laws''.makes GatewayAnswer.the-type Laws.the-plain 𝓤 H A; in-mem = Local.mem-whole 𝓤 H A W (Declared.row GatewayAnswer.the-type); of-mem = Local.whole-mem 𝓤 H A W (Declared.row GatewayAnswer.the-type) }
 
 abbrev pub xs : List.List Syntax.Ty
-xs = List._∷_ (Syntax.tyStruct (List._∷_ 114 (List._∷_ 117 (List._∷_ 108 (List._∷_ 101 (List._∷_ 115 (List._∷_ 58 (List._∷_ 58 (List._∷_ 65 (List._∷_ 110 (List._∷_ 115 (List._∷_ 119 (List._∷_ 101 (List._∷_ 114 List.[]))))))))))))) (Syntax.tcons (Syntax.tyEnum (List._∷_ 114 (List._∷_ 117 (List._∷_ 108 (List._∷_ 101 (List._∷_ 115 (List._∷_ 58 (List._∷_ 58 (List._∷_ 79 (List._∷_ 117 (List._∷_ 116 (List._∷_ 99 (List._∷_ 111 (List._∷_ 109 (List._∷_ 101 List.[])))))))))))))) (Syntax.ttcons Syntax.tnil (Syntax.ttcons (Syntax.tcons (Syntax.tyInt Syntax.w64) Syntax.tnil) (Syntax.ttcons (Syntax.tcons (Syntax.tyInt Syntax.w64) Syntax.tnil) Syntax.ttnil)))) (Syntax.tcons (Syntax.tyInt Syntax.w64) (Syntax.tcons (Syntax.tyInt Syntax.w64) Syntax.tnil)))) (List._∷_ (Syntax.tyRef Syntax.erased Syntax.mut (Syntax.tyInt Syntax.w64)) (List._∷_ (Syntax.tyStruct (List._∷_ 38 (List._∷_ 91 (List._∷_ 93 List.[]))) (Syntax.tcons (Syntax.tyRef Syntax.erased Syntax.mut (Syntax.tyInt Syntax.w64)) (Syntax.tcons (Syntax.tyInt Syntax.w64) Syntax.tnil))) (List._∷_ (Syntax.tyRef Syntax.erased Syntax.mut Lent.refS) List.[])))
+xs = List._∷_ (Syntax.tyStruct (List._∷_ 114 (List._∷_ 117 (List._∷_ 108 (List._∷_ 101 (List._∷_ 115 (List._∷_ 58 (List._∷_ 58 (List._∷_ 65 (List._∷_ 110 (List._∷_ 115 (List._∷_ 119 (List._∷_ 101 (List._∷_ 114 List.[]))))))))))))) (Syntax.tcons (Syntax.tyEnum (List._∷_ 114 (List._∷_ 117 (List._∷_ 108 (List._∷_ 101 (List._∷_ 115 (List._∷_ 58 (List._∷_ 58 (List._∷_ 79 (List._∷_ 117 (List._∷_ 116 (List._∷_ 99 (List._∷_ 111 (List._∷_ 109 (List._∷_ 101 List.[])))))))))))))) (Syntax.ttcons Syntax.tnil (Syntax.ttcons (Syntax.tcons (Syntax.tyInt Syntax.w16) Syntax.tnil) (Syntax.ttcons (Syntax.tcons (Syntax.tyInt Syntax.w16) Syntax.tnil) Syntax.ttnil)))) (Syntax.tcons (Syntax.tyInt Syntax.w64) (Syntax.tcons (Syntax.tyInt Syntax.w64) Syntax.tnil)))) (List._∷_ (Syntax.tyRef Syntax.erased Syntax.mut (Syntax.tyInt Syntax.w64)) (List._∷_ (Syntax.tyStruct (List._∷_ 38 (List._∷_ 91 (List._∷_ 93 List.[]))) (Syntax.tcons (Syntax.tyRef Syntax.erased Syntax.mut (Syntax.tyInt Syntax.w64)) (Syntax.tcons (Syntax.tyInt Syntax.w64) Syntax.tnil))) (List._∷_ (Syntax.tyRef Syntax.erased Syntax.mut Lent.refS) List.[])))
 
 abbrev pub m : Nat.ℕ
 m = 2
@@ -118,19 +118,19 @@ abbrev pub Claims : Type 1
 Claims = Kinds.In 3 ps·0 × Kinds.Out 3 ps·0 r·0 × Kinds.In 0 ps·1 × Kinds.Out 0 ps·1 r·1
 
 abbrev pub t0 : List.List Row.Entry
-t0 = List._∷_ (0, Rows.any-gone (Syntax.tyStruct (List._∷_ 103 (List._∷_ 97 (List._∷_ 116 (List._∷_ 101 (List._∷_ 119 (List._∷_ 97 (List._∷_ 121 (List._∷_ 58 (List._∷_ 58 (List._∷_ 71 (List._∷_ 97 (List._∷_ 116 (List._∷_ 101 (List._∷_ 119 (List._∷_ 97 (List._∷_ 121 (List._∷_ 65 (List._∷_ 110 (List._∷_ 115 (List._∷_ 119 (List._∷_ 101 (List._∷_ 114 List.[])))))))))))))))))))))) (Syntax.tcons (Syntax.tyInt Syntax.w64) (Syntax.tcons (Syntax.tyInt Syntax.w64) (Syntax.tcons (Syntax.tyInt Syntax.w64) (Syntax.tcons (Syntax.tyInt Syntax.w64) Syntax.tnil)))))) (List._∷_ (1, Rows.sslice (Referent.rtF (Referent.fInt Syntax.w8)) (Syntax.tyRef (Syntax.named 0) Syntax.imm (Syntax.tyInt Syntax.w8)) 0) (List._∷_ (2, Rows.sc-here (Row.sInt Syntax.w64)) (List._∷_ (3, Rows.sc-here Row.sBool) (List._∷_ (4, Mut.mslice (Referent.rtF (Referent.fInt Syntax.w64)) (Syntax.tyRef (Syntax.named 1) Syntax.mut (Syntax.tyInt Syntax.w64)) 1) (List._∷_ (5, Rows.mref Lent.R (Syntax.tyRef (Syntax.named 2) Syntax.mut Lent.refS) 2) (List._∷_ (6, Rows.sc-here Row.sBool) (List._∷_ (7, Rows.any-gone (Syntax.tyStruct (List._∷_ 114 (List._∷_ 117 (List._∷_ 108 (List._∷_ 101 (List._∷_ 115 (List._∷_ 58 (List._∷_ 58 (List._∷_ 65 (List._∷_ 110 (List._∷_ 115 (List._∷_ 119 (List._∷_ 101 (List._∷_ 114 List.[]))))))))))))) (Syntax.tcons (Syntax.tyEnum (List._∷_ 114 (List._∷_ 117 (List._∷_ 108 (List._∷_ 101 (List._∷_ 115 (List._∷_ 58 (List._∷_ 58 (List._∷_ 79 (List._∷_ 117 (List._∷_ 116 (List._∷_ 99 (List._∷_ 111 (List._∷_ 109 (List._∷_ 101 List.[])))))))))))))) (Syntax.ttcons Syntax.tnil (Syntax.ttcons (Syntax.tcons (Syntax.tyInt Syntax.w64) Syntax.tnil) (Syntax.ttcons (Syntax.tcons (Syntax.tyInt Syntax.w64) Syntax.tnil) Syntax.ttnil)))) (Syntax.tcons (Syntax.tyInt Syntax.w64) (Syntax.tcons (Syntax.tyInt Syntax.w64) Syntax.tnil))))) (List._∷_ (8, Rows.any-gone (Syntax.tyRef Syntax.erased Syntax.mut (Syntax.tyInt Syntax.w64))) (List._∷_ (9, Rows.any-gone (Syntax.tyStruct (List._∷_ 38 (List._∷_ 91 (List._∷_ 93 List.[]))) (Syntax.tcons (Syntax.tyRef Syntax.erased Syntax.mut (Syntax.tyInt Syntax.w64)) (Syntax.tcons (Syntax.tyInt Syntax.w64) Syntax.tnil)))) (List._∷_ (10, Rows.any-gone (Syntax.tyRef Syntax.erased Syntax.mut Lent.refS)) List.[]))))))))))
+t0 = List._∷_ (0, Rows.any-gone (Syntax.tyStruct (List._∷_ 103 (List._∷_ 97 (List._∷_ 116 (List._∷_ 101 (List._∷_ 119 (List._∷_ 97 (List._∷_ 121 (List._∷_ 58 (List._∷_ 58 (List._∷_ 71 (List._∷_ 97 (List._∷_ 116 (List._∷_ 101 (List._∷_ 119 (List._∷_ 97 (List._∷_ 121 (List._∷_ 65 (List._∷_ 110 (List._∷_ 115 (List._∷_ 119 (List._∷_ 101 (List._∷_ 114 List.[])))))))))))))))))))))) (Syntax.tcons (Syntax.tyInt Syntax.w64) (Syntax.tcons (Syntax.tyInt Syntax.w64) (Syntax.tcons (Syntax.tyInt Syntax.w64) (Syntax.tcons (Syntax.tyInt Syntax.w64) Syntax.tnil)))))) (List._∷_ (1, Rows.sslice (Referent.rtF (Referent.fInt Syntax.w8)) (Syntax.tyRef (Syntax.named 0) Syntax.imm (Syntax.tyInt Syntax.w8)) 0) (List._∷_ (2, Rows.sc-here (Row.sInt Syntax.w64)) (List._∷_ (3, Rows.sc-here Row.sBool) (List._∷_ (4, Mut.mslice (Referent.rtF (Referent.fInt Syntax.w64)) (Syntax.tyRef (Syntax.named 1) Syntax.mut (Syntax.tyInt Syntax.w64)) 1) (List._∷_ (5, Rows.mref Lent.R (Syntax.tyRef (Syntax.named 2) Syntax.mut Lent.refS) 2) (List._∷_ (6, Rows.sc-here Row.sBool) (List._∷_ (7, Rows.any-gone (Syntax.tyStruct (List._∷_ 114 (List._∷_ 117 (List._∷_ 108 (List._∷_ 101 (List._∷_ 115 (List._∷_ 58 (List._∷_ 58 (List._∷_ 65 (List._∷_ 110 (List._∷_ 115 (List._∷_ 119 (List._∷_ 101 (List._∷_ 114 List.[]))))))))))))) (Syntax.tcons (Syntax.tyEnum (List._∷_ 114 (List._∷_ 117 (List._∷_ 108 (List._∷_ 101 (List._∷_ 115 (List._∷_ 58 (List._∷_ 58 (List._∷_ 79 (List._∷_ 117 (List._∷_ 116 (List._∷_ 99 (List._∷_ 111 (List._∷_ 109 (List._∷_ 101 List.[])))))))))))))) (Syntax.ttcons Syntax.tnil (Syntax.ttcons (Syntax.tcons (Syntax.tyInt Syntax.w16) Syntax.tnil) (Syntax.ttcons (Syntax.tcons (Syntax.tyInt Syntax.w16) Syntax.tnil) Syntax.ttnil)))) (Syntax.tcons (Syntax.tyInt Syntax.w64) (Syntax.tcons (Syntax.tyInt Syntax.w64) Syntax.tnil))))) (List._∷_ (8, Rows.any-gone (Syntax.tyRef Syntax.erased Syntax.mut (Syntax.tyInt Syntax.w64))) (List._∷_ (9, Rows.any-gone (Syntax.tyStruct (List._∷_ 38 (List._∷_ 91 (List._∷_ 93 List.[]))) (Syntax.tcons (Syntax.tyRef Syntax.erased Syntax.mut (Syntax.tyInt Syntax.w64)) (Syntax.tcons (Syntax.tyInt Syntax.w64) Syntax.tnil)))) (List._∷_ (10, Rows.any-gone (Syntax.tyRef Syntax.erased Syntax.mut Lent.refS)) List.[]))))))))))
 
 abbrev pub t1 : List.List Row.Entry
-t1 = List._∷_ (0, Rows.whole (Declared.row GatewayAnswer.the-type)) (List._∷_ (1, Rows.sslice (Referent.rtF (Referent.fInt Syntax.w8)) (Syntax.tyRef (Syntax.named 0) Syntax.imm (Syntax.tyInt Syntax.w8)) 0) (List._∷_ (2, Rows.any-gone (Syntax.tyInt Syntax.w64)) (List._∷_ (3, Rows.any-gone Syntax.tyBool) (List._∷_ (4, Mut.mslice (Referent.rtF (Referent.fInt Syntax.w64)) (Syntax.tyRef (Syntax.named 1) Syntax.mut (Syntax.tyInt Syntax.w64)) 1) (List._∷_ (5, Rows.mref Lent.R (Syntax.tyRef (Syntax.named 2) Syntax.mut Lent.refS) 2) (List._∷_ (6, Rows.any-gone Syntax.tyBool) (List._∷_ (7, Rows.any-gone (Syntax.tyStruct (List._∷_ 114 (List._∷_ 117 (List._∷_ 108 (List._∷_ 101 (List._∷_ 115 (List._∷_ 58 (List._∷_ 58 (List._∷_ 65 (List._∷_ 110 (List._∷_ 115 (List._∷_ 119 (List._∷_ 101 (List._∷_ 114 List.[]))))))))))))) (Syntax.tcons (Syntax.tyEnum (List._∷_ 114 (List._∷_ 117 (List._∷_ 108 (List._∷_ 101 (List._∷_ 115 (List._∷_ 58 (List._∷_ 58 (List._∷_ 79 (List._∷_ 117 (List._∷_ 116 (List._∷_ 99 (List._∷_ 111 (List._∷_ 109 (List._∷_ 101 List.[])))))))))))))) (Syntax.ttcons Syntax.tnil (Syntax.ttcons (Syntax.tcons (Syntax.tyInt Syntax.w64) Syntax.tnil) (Syntax.ttcons (Syntax.tcons (Syntax.tyInt Syntax.w64) Syntax.tnil) Syntax.ttnil)))) (Syntax.tcons (Syntax.tyInt Syntax.w64) (Syntax.tcons (Syntax.tyInt Syntax.w64) Syntax.tnil))))) (List._∷_ (8, Rows.any-gone (Syntax.tyRef Syntax.erased Syntax.mut (Syntax.tyInt Syntax.w64))) (List._∷_ (9, Rows.any-gone (Syntax.tyStruct (List._∷_ 38 (List._∷_ 91 (List._∷_ 93 List.[]))) (Syntax.tcons (Syntax.tyRef Syntax.erased Syntax.mut (Syntax.tyInt Syntax.w64)) (Syntax.tcons (Syntax.tyInt Syntax.w64) Syntax.tnil)))) (List._∷_ (10, Rows.any-gone (Syntax.tyRef Syntax.erased Syntax.mut Lent.refS)) List.[]))))))))))
+t1 = List._∷_ (0, Rows.whole (Declared.row GatewayAnswer.the-type)) (List._∷_ (1, Rows.sslice (Referent.rtF (Referent.fInt Syntax.w8)) (Syntax.tyRef (Syntax.named 0) Syntax.imm (Syntax.tyInt Syntax.w8)) 0) (List._∷_ (2, Rows.any-gone (Syntax.tyInt Syntax.w64)) (List._∷_ (3, Rows.any-gone Syntax.tyBool) (List._∷_ (4, Mut.mslice (Referent.rtF (Referent.fInt Syntax.w64)) (Syntax.tyRef (Syntax.named 1) Syntax.mut (Syntax.tyInt Syntax.w64)) 1) (List._∷_ (5, Rows.mref Lent.R (Syntax.tyRef (Syntax.named 2) Syntax.mut Lent.refS) 2) (List._∷_ (6, Rows.any-gone Syntax.tyBool) (List._∷_ (7, Rows.any-gone (Syntax.tyStruct (List._∷_ 114 (List._∷_ 117 (List._∷_ 108 (List._∷_ 101 (List._∷_ 115 (List._∷_ 58 (List._∷_ 58 (List._∷_ 65 (List._∷_ 110 (List._∷_ 115 (List._∷_ 119 (List._∷_ 101 (List._∷_ 114 List.[]))))))))))))) (Syntax.tcons (Syntax.tyEnum (List._∷_ 114 (List._∷_ 117 (List._∷_ 108 (List._∷_ 101 (List._∷_ 115 (List._∷_ 58 (List._∷_ 58 (List._∷_ 79 (List._∷_ 117 (List._∷_ 116 (List._∷_ 99 (List._∷_ 111 (List._∷_ 109 (List._∷_ 101 List.[])))))))))))))) (Syntax.ttcons Syntax.tnil (Syntax.ttcons (Syntax.tcons (Syntax.tyInt Syntax.w16) Syntax.tnil) (Syntax.ttcons (Syntax.tcons (Syntax.tyInt Syntax.w16) Syntax.tnil) Syntax.ttnil)))) (Syntax.tcons (Syntax.tyInt Syntax.w64) (Syntax.tcons (Syntax.tyInt Syntax.w64) Syntax.tnil))))) (List._∷_ (8, Rows.any-gone (Syntax.tyRef Syntax.erased Syntax.mut (Syntax.tyInt Syntax.w64))) (List._∷_ (9, Rows.any-gone (Syntax.tyStruct (List._∷_ 38 (List._∷_ 91 (List._∷_ 93 List.[]))) (Syntax.tcons (Syntax.tyRef Syntax.erased Syntax.mut (Syntax.tyInt Syntax.w64)) (Syntax.tcons (Syntax.tyInt Syntax.w64) Syntax.tnil)))) (List._∷_ (10, Rows.any-gone (Syntax.tyRef Syntax.erased Syntax.mut Lent.refS)) List.[]))))))))))
 
 abbrev pub t2 : List.List Row.Entry
-t2 = List._∷_ (0, Rows.any-gone (Syntax.tyStruct (List._∷_ 103 (List._∷_ 97 (List._∷_ 116 (List._∷_ 101 (List._∷_ 119 (List._∷_ 97 (List._∷_ 121 (List._∷_ 58 (List._∷_ 58 (List._∷_ 71 (List._∷_ 97 (List._∷_ 116 (List._∷_ 101 (List._∷_ 119 (List._∷_ 97 (List._∷_ 121 (List._∷_ 65 (List._∷_ 110 (List._∷_ 115 (List._∷_ 119 (List._∷_ 101 (List._∷_ 114 List.[])))))))))))))))))))))) (Syntax.tcons (Syntax.tyInt Syntax.w64) (Syntax.tcons (Syntax.tyInt Syntax.w64) (Syntax.tcons (Syntax.tyInt Syntax.w64) (Syntax.tcons (Syntax.tyInt Syntax.w64) Syntax.tnil)))))) (List._∷_ (1, Rows.sslice (Referent.rtF (Referent.fInt Syntax.w8)) (Syntax.tyRef (Syntax.named 0) Syntax.imm (Syntax.tyInt Syntax.w8)) 0) (List._∷_ (2, Rows.sc-here (Row.sInt Syntax.w64)) (List._∷_ (3, Rows.sc-here Row.sBool) (List._∷_ (4, Relend.mslice-owed (Referent.rtF (Referent.fInt Syntax.w64)) (Syntax.tyRef (Syntax.named 1) Syntax.mut (Syntax.tyInt Syntax.w64)) 1 3 Row.off) (List._∷_ (5, Rows.mref Lent.R (Syntax.tyRef (Syntax.named 2) Syntax.mut Lent.refS) 2) (List._∷_ (6, Rows.sc-here Row.sBool) (List._∷_ (7, Rows.any-gone (Syntax.tyStruct (List._∷_ 114 (List._∷_ 117 (List._∷_ 108 (List._∷_ 101 (List._∷_ 115 (List._∷_ 58 (List._∷_ 58 (List._∷_ 65 (List._∷_ 110 (List._∷_ 115 (List._∷_ 119 (List._∷_ 101 (List._∷_ 114 List.[]))))))))))))) (Syntax.tcons (Syntax.tyEnum (List._∷_ 114 (List._∷_ 117 (List._∷_ 108 (List._∷_ 101 (List._∷_ 115 (List._∷_ 58 (List._∷_ 58 (List._∷_ 79 (List._∷_ 117 (List._∷_ 116 (List._∷_ 99 (List._∷_ 111 (List._∷_ 109 (List._∷_ 101 List.[])))))))))))))) (Syntax.ttcons Syntax.tnil (Syntax.ttcons (Syntax.tcons (Syntax.tyInt Syntax.w64) Syntax.tnil) (Syntax.ttcons (Syntax.tcons (Syntax.tyInt Syntax.w64) Syntax.tnil) Syntax.ttnil)))) (Syntax.tcons (Syntax.tyInt Syntax.w64) (Syntax.tcons (Syntax.tyInt Syntax.w64) Syntax.tnil))))) (List._∷_ (8, Relend.msptr (Referent.rtF (Referent.fInt Syntax.w64)) (Syntax.tyRef Syntax.erased Syntax.mut (Syntax.tyInt Syntax.w64)) 3) (List._∷_ (9, Rows.any-gone (Syntax.tyStruct (List._∷_ 38 (List._∷_ 91 (List._∷_ 93 List.[]))) (Syntax.tcons (Syntax.tyRef Syntax.erased Syntax.mut (Syntax.tyInt Syntax.w64)) (Syntax.tcons (Syntax.tyInt Syntax.w64) Syntax.tnil)))) (List._∷_ (10, Rows.any-gone (Syntax.tyRef Syntax.erased Syntax.mut Lent.refS)) List.[]))))))))))
+t2 = List._∷_ (0, Rows.any-gone (Syntax.tyStruct (List._∷_ 103 (List._∷_ 97 (List._∷_ 116 (List._∷_ 101 (List._∷_ 119 (List._∷_ 97 (List._∷_ 121 (List._∷_ 58 (List._∷_ 58 (List._∷_ 71 (List._∷_ 97 (List._∷_ 116 (List._∷_ 101 (List._∷_ 119 (List._∷_ 97 (List._∷_ 121 (List._∷_ 65 (List._∷_ 110 (List._∷_ 115 (List._∷_ 119 (List._∷_ 101 (List._∷_ 114 List.[])))))))))))))))))))))) (Syntax.tcons (Syntax.tyInt Syntax.w64) (Syntax.tcons (Syntax.tyInt Syntax.w64) (Syntax.tcons (Syntax.tyInt Syntax.w64) (Syntax.tcons (Syntax.tyInt Syntax.w64) Syntax.tnil)))))) (List._∷_ (1, Rows.sslice (Referent.rtF (Referent.fInt Syntax.w8)) (Syntax.tyRef (Syntax.named 0) Syntax.imm (Syntax.tyInt Syntax.w8)) 0) (List._∷_ (2, Rows.sc-here (Row.sInt Syntax.w64)) (List._∷_ (3, Rows.sc-here Row.sBool) (List._∷_ (4, Relend.mslice-owed (Referent.rtF (Referent.fInt Syntax.w64)) (Syntax.tyRef (Syntax.named 1) Syntax.mut (Syntax.tyInt Syntax.w64)) 1 3 Row.off) (List._∷_ (5, Rows.mref Lent.R (Syntax.tyRef (Syntax.named 2) Syntax.mut Lent.refS) 2) (List._∷_ (6, Rows.sc-here Row.sBool) (List._∷_ (7, Rows.any-gone (Syntax.tyStruct (List._∷_ 114 (List._∷_ 117 (List._∷_ 108 (List._∷_ 101 (List._∷_ 115 (List._∷_ 58 (List._∷_ 58 (List._∷_ 65 (List._∷_ 110 (List._∷_ 115 (List._∷_ 119 (List._∷_ 101 (List._∷_ 114 List.[]))))))))))))) (Syntax.tcons (Syntax.tyEnum (List._∷_ 114 (List._∷_ 117 (List._∷_ 108 (List._∷_ 101 (List._∷_ 115 (List._∷_ 58 (List._∷_ 58 (List._∷_ 79 (List._∷_ 117 (List._∷_ 116 (List._∷_ 99 (List._∷_ 111 (List._∷_ 109 (List._∷_ 101 List.[])))))))))))))) (Syntax.ttcons Syntax.tnil (Syntax.ttcons (Syntax.tcons (Syntax.tyInt Syntax.w16) Syntax.tnil) (Syntax.ttcons (Syntax.tcons (Syntax.tyInt Syntax.w16) Syntax.tnil) Syntax.ttnil)))) (Syntax.tcons (Syntax.tyInt Syntax.w64) (Syntax.tcons (Syntax.tyInt Syntax.w64) Syntax.tnil))))) (List._∷_ (8, Relend.msptr (Referent.rtF (Referent.fInt Syntax.w64)) (Syntax.tyRef Syntax.erased Syntax.mut (Syntax.tyInt Syntax.w64)) 3) (List._∷_ (9, Rows.any-gone (Syntax.tyStruct (List._∷_ 38 (List._∷_ 91 (List._∷_ 93 List.[]))) (Syntax.tcons (Syntax.tyRef Syntax.erased Syntax.mut (Syntax.tyInt Syntax.w64)) (Syntax.tcons (Syntax.tyInt Syntax.w64) Syntax.tnil)))) (List._∷_ (10, Rows.any-gone (Syntax.tyRef Syntax.erased Syntax.mut Lent.refS)) List.[]))))))))))
 
 abbrev pub t3 : List.List Row.Entry
-t3 = List._∷_ (0, Rows.any-gone (Syntax.tyStruct (List._∷_ 103 (List._∷_ 97 (List._∷_ 116 (List._∷_ 101 (List._∷_ 119 (List._∷_ 97 (List._∷_ 121 (List._∷_ 58 (List._∷_ 58 (List._∷_ 71 (List._∷_ 97 (List._∷_ 116 (List._∷_ 101 (List._∷_ 119 (List._∷_ 97 (List._∷_ 121 (List._∷_ 65 (List._∷_ 110 (List._∷_ 115 (List._∷_ 119 (List._∷_ 101 (List._∷_ 114 List.[])))))))))))))))))))))) (Syntax.tcons (Syntax.tyInt Syntax.w64) (Syntax.tcons (Syntax.tyInt Syntax.w64) (Syntax.tcons (Syntax.tyInt Syntax.w64) (Syntax.tcons (Syntax.tyInt Syntax.w64) Syntax.tnil)))))) (List._∷_ (1, Rows.sslice (Referent.rtF (Referent.fInt Syntax.w8)) (Syntax.tyRef (Syntax.named 0) Syntax.imm (Syntax.tyInt Syntax.w8)) 0) (List._∷_ (2, Rows.sc-here (Row.sInt Syntax.w64)) (List._∷_ (3, Rows.sc-here Row.sBool) (List._∷_ (4, Relend.mslice-owed (Referent.rtF (Referent.fInt Syntax.w64)) (Syntax.tyRef (Syntax.named 1) Syntax.mut (Syntax.tyInt Syntax.w64)) 1 3 Row.off) (List._∷_ (5, Rows.mref Lent.R (Syntax.tyRef (Syntax.named 2) Syntax.mut Lent.refS) 2) (List._∷_ (6, Rows.sc-here Row.sBool) (List._∷_ (7, Rows.any-gone (Syntax.tyStruct (List._∷_ 114 (List._∷_ 117 (List._∷_ 108 (List._∷_ 101 (List._∷_ 115 (List._∷_ 58 (List._∷_ 58 (List._∷_ 65 (List._∷_ 110 (List._∷_ 115 (List._∷_ 119 (List._∷_ 101 (List._∷_ 114 List.[]))))))))))))) (Syntax.tcons (Syntax.tyEnum (List._∷_ 114 (List._∷_ 117 (List._∷_ 108 (List._∷_ 101 (List._∷_ 115 (List._∷_ 58 (List._∷_ 58 (List._∷_ 79 (List._∷_ 117 (List._∷_ 116 (List._∷_ 99 (List._∷_ 111 (List._∷_ 109 (List._∷_ 101 List.[])))))))))))))) (Syntax.ttcons Syntax.tnil (Syntax.ttcons (Syntax.tcons (Syntax.tyInt Syntax.w64) Syntax.tnil) (Syntax.ttcons (Syntax.tcons (Syntax.tyInt Syntax.w64) Syntax.tnil) Syntax.ttnil)))) (Syntax.tcons (Syntax.tyInt Syntax.w64) (Syntax.tcons (Syntax.tyInt Syntax.w64) Syntax.tnil))))) (List._∷_ (8, Rows.any-gone (Syntax.tyRef Syntax.erased Syntax.mut (Syntax.tyInt Syntax.w64))) (List._∷_ (9, Mut.mslice (Referent.rtF (Referent.fInt Syntax.w64)) (Syntax.tyRef Syntax.erased Syntax.mut (Syntax.tyInt Syntax.w64)) 3) (List._∷_ (10, Rows.any-gone (Syntax.tyRef Syntax.erased Syntax.mut Lent.refS)) List.[]))))))))))
+t3 = List._∷_ (0, Rows.any-gone (Syntax.tyStruct (List._∷_ 103 (List._∷_ 97 (List._∷_ 116 (List._∷_ 101 (List._∷_ 119 (List._∷_ 97 (List._∷_ 121 (List._∷_ 58 (List._∷_ 58 (List._∷_ 71 (List._∷_ 97 (List._∷_ 116 (List._∷_ 101 (List._∷_ 119 (List._∷_ 97 (List._∷_ 121 (List._∷_ 65 (List._∷_ 110 (List._∷_ 115 (List._∷_ 119 (List._∷_ 101 (List._∷_ 114 List.[])))))))))))))))))))))) (Syntax.tcons (Syntax.tyInt Syntax.w64) (Syntax.tcons (Syntax.tyInt Syntax.w64) (Syntax.tcons (Syntax.tyInt Syntax.w64) (Syntax.tcons (Syntax.tyInt Syntax.w64) Syntax.tnil)))))) (List._∷_ (1, Rows.sslice (Referent.rtF (Referent.fInt Syntax.w8)) (Syntax.tyRef (Syntax.named 0) Syntax.imm (Syntax.tyInt Syntax.w8)) 0) (List._∷_ (2, Rows.sc-here (Row.sInt Syntax.w64)) (List._∷_ (3, Rows.sc-here Row.sBool) (List._∷_ (4, Relend.mslice-owed (Referent.rtF (Referent.fInt Syntax.w64)) (Syntax.tyRef (Syntax.named 1) Syntax.mut (Syntax.tyInt Syntax.w64)) 1 3 Row.off) (List._∷_ (5, Rows.mref Lent.R (Syntax.tyRef (Syntax.named 2) Syntax.mut Lent.refS) 2) (List._∷_ (6, Rows.sc-here Row.sBool) (List._∷_ (7, Rows.any-gone (Syntax.tyStruct (List._∷_ 114 (List._∷_ 117 (List._∷_ 108 (List._∷_ 101 (List._∷_ 115 (List._∷_ 58 (List._∷_ 58 (List._∷_ 65 (List._∷_ 110 (List._∷_ 115 (List._∷_ 119 (List._∷_ 101 (List._∷_ 114 List.[]))))))))))))) (Syntax.tcons (Syntax.tyEnum (List._∷_ 114 (List._∷_ 117 (List._∷_ 108 (List._∷_ 101 (List._∷_ 115 (List._∷_ 58 (List._∷_ 58 (List._∷_ 79 (List._∷_ 117 (List._∷_ 116 (List._∷_ 99 (List._∷_ 111 (List._∷_ 109 (List._∷_ 101 List.[])))))))))))))) (Syntax.ttcons Syntax.tnil (Syntax.ttcons (Syntax.tcons (Syntax.tyInt Syntax.w16) Syntax.tnil) (Syntax.ttcons (Syntax.tcons (Syntax.tyInt Syntax.w16) Syntax.tnil) Syntax.ttnil)))) (Syntax.tcons (Syntax.tyInt Syntax.w64) (Syntax.tcons (Syntax.tyInt Syntax.w64) Syntax.tnil))))) (List._∷_ (8, Rows.any-gone (Syntax.tyRef Syntax.erased Syntax.mut (Syntax.tyInt Syntax.w64))) (List._∷_ (9, Mut.mslice (Referent.rtF (Referent.fInt Syntax.w64)) (Syntax.tyRef Syntax.erased Syntax.mut (Syntax.tyInt Syntax.w64)) 3) (List._∷_ (10, Rows.any-gone (Syntax.tyRef Syntax.erased Syntax.mut Lent.refS)) List.[]))))))))))
 
 abbrev pub t4 : List.List Row.Entry
-t4 = List._∷_ (0, Rows.any-gone (Syntax.tyStruct (List._∷_ 103 (List._∷_ 97 (List._∷_ 116 (List._∷_ 101 (List._∷_ 119 (List._∷_ 97 (List._∷_ 121 (List._∷_ 58 (List._∷_ 58 (List._∷_ 71 (List._∷_ 97 (List._∷_ 116 (List._∷_ 101 (List._∷_ 119 (List._∷_ 97 (List._∷_ 121 (List._∷_ 65 (List._∷_ 110 (List._∷_ 115 (List._∷_ 119 (List._∷_ 101 (List._∷_ 114 List.[])))))))))))))))))))))) (Syntax.tcons (Syntax.tyInt Syntax.w64) (Syntax.tcons (Syntax.tyInt Syntax.w64) (Syntax.tcons (Syntax.tyInt Syntax.w64) (Syntax.tcons (Syntax.tyInt Syntax.w64) Syntax.tnil)))))) (List._∷_ (1, Rows.sslice (Referent.rtF (Referent.fInt Syntax.w8)) (Syntax.tyRef (Syntax.named 0) Syntax.imm (Syntax.tyInt Syntax.w8)) 0) (List._∷_ (2, Rows.sc-here (Row.sInt Syntax.w64)) (List._∷_ (3, Rows.sc-here Row.sBool) (List._∷_ (4, Relend.mslice-owed (Referent.rtF (Referent.fInt Syntax.w64)) (Syntax.tyRef (Syntax.named 1) Syntax.mut (Syntax.tyInt Syntax.w64)) 1 3 Row.off) (List._∷_ (5, Rows.mref-owed Lent.R (Syntax.tyRef (Syntax.named 2) Syntax.mut Lent.refS) 2 4 Row.off) (List._∷_ (6, Rows.sc-here Row.sBool) (List._∷_ (7, Rows.any-gone (Syntax.tyStruct (List._∷_ 114 (List._∷_ 117 (List._∷_ 108 (List._∷_ 101 (List._∷_ 115 (List._∷_ 58 (List._∷_ 58 (List._∷_ 65 (List._∷_ 110 (List._∷_ 115 (List._∷_ 119 (List._∷_ 101 (List._∷_ 114 List.[]))))))))))))) (Syntax.tcons (Syntax.tyEnum (List._∷_ 114 (List._∷_ 117 (List._∷_ 108 (List._∷_ 101 (List._∷_ 115 (List._∷_ 58 (List._∷_ 58 (List._∷_ 79 (List._∷_ 117 (List._∷_ 116 (List._∷_ 99 (List._∷_ 111 (List._∷_ 109 (List._∷_ 101 List.[])))))))))))))) (Syntax.ttcons Syntax.tnil (Syntax.ttcons (Syntax.tcons (Syntax.tyInt Syntax.w64) Syntax.tnil) (Syntax.ttcons (Syntax.tcons (Syntax.tyInt Syntax.w64) Syntax.tnil) Syntax.ttnil)))) (Syntax.tcons (Syntax.tyInt Syntax.w64) (Syntax.tcons (Syntax.tyInt Syntax.w64) Syntax.tnil))))) (List._∷_ (8, Rows.any-gone (Syntax.tyRef Syntax.erased Syntax.mut (Syntax.tyInt Syntax.w64))) (List._∷_ (9, Mut.mslice (Referent.rtF (Referent.fInt Syntax.w64)) (Syntax.tyRef Syntax.erased Syntax.mut (Syntax.tyInt Syntax.w64)) 3) (List._∷_ (10, Rows.mref Lent.R (Syntax.tyRef Syntax.erased Syntax.mut Lent.refS) 4) List.[]))))))))))
+t4 = List._∷_ (0, Rows.any-gone (Syntax.tyStruct (List._∷_ 103 (List._∷_ 97 (List._∷_ 116 (List._∷_ 101 (List._∷_ 119 (List._∷_ 97 (List._∷_ 121 (List._∷_ 58 (List._∷_ 58 (List._∷_ 71 (List._∷_ 97 (List._∷_ 116 (List._∷_ 101 (List._∷_ 119 (List._∷_ 97 (List._∷_ 121 (List._∷_ 65 (List._∷_ 110 (List._∷_ 115 (List._∷_ 119 (List._∷_ 101 (List._∷_ 114 List.[])))))))))))))))))))))) (Syntax.tcons (Syntax.tyInt Syntax.w64) (Syntax.tcons (Syntax.tyInt Syntax.w64) (Syntax.tcons (Syntax.tyInt Syntax.w64) (Syntax.tcons (Syntax.tyInt Syntax.w64) Syntax.tnil)))))) (List._∷_ (1, Rows.sslice (Referent.rtF (Referent.fInt Syntax.w8)) (Syntax.tyRef (Syntax.named 0) Syntax.imm (Syntax.tyInt Syntax.w8)) 0) (List._∷_ (2, Rows.sc-here (Row.sInt Syntax.w64)) (List._∷_ (3, Rows.sc-here Row.sBool) (List._∷_ (4, Relend.mslice-owed (Referent.rtF (Referent.fInt Syntax.w64)) (Syntax.tyRef (Syntax.named 1) Syntax.mut (Syntax.tyInt Syntax.w64)) 1 3 Row.off) (List._∷_ (5, Rows.mref-owed Lent.R (Syntax.tyRef (Syntax.named 2) Syntax.mut Lent.refS) 2 4 Row.off) (List._∷_ (6, Rows.sc-here Row.sBool) (List._∷_ (7, Rows.any-gone (Syntax.tyStruct (List._∷_ 114 (List._∷_ 117 (List._∷_ 108 (List._∷_ 101 (List._∷_ 115 (List._∷_ 58 (List._∷_ 58 (List._∷_ 65 (List._∷_ 110 (List._∷_ 115 (List._∷_ 119 (List._∷_ 101 (List._∷_ 114 List.[]))))))))))))) (Syntax.tcons (Syntax.tyEnum (List._∷_ 114 (List._∷_ 117 (List._∷_ 108 (List._∷_ 101 (List._∷_ 115 (List._∷_ 58 (List._∷_ 58 (List._∷_ 79 (List._∷_ 117 (List._∷_ 116 (List._∷_ 99 (List._∷_ 111 (List._∷_ 109 (List._∷_ 101 List.[])))))))))))))) (Syntax.ttcons Syntax.tnil (Syntax.ttcons (Syntax.tcons (Syntax.tyInt Syntax.w16) Syntax.tnil) (Syntax.ttcons (Syntax.tcons (Syntax.tyInt Syntax.w16) Syntax.tnil) Syntax.ttnil)))) (Syntax.tcons (Syntax.tyInt Syntax.w64) (Syntax.tcons (Syntax.tyInt Syntax.w64) Syntax.tnil))))) (List._∷_ (8, Rows.any-gone (Syntax.tyRef Syntax.erased Syntax.mut (Syntax.tyInt Syntax.w64))) (List._∷_ (9, Mut.mslice (Referent.rtF (Referent.fInt Syntax.w64)) (Syntax.tyRef Syntax.erased Syntax.mut (Syntax.tyInt Syntax.w64)) 3) (List._∷_ (10, Rows.mref Lent.R (Syntax.tyRef Syntax.erased Syntax.mut Lent.refS) 4) List.[]))))))))))
 
 abbrev pub t5 : List.List Row.Entry
 t5 = List._∷_ (0, Rows.any-gone (Syntax.tyStruct (List._∷_ 103 (List._∷_ 97 (List._∷_ 116 (List._∷_ 101 (List._∷_ 119 (List._∷_ 97 (List._∷_ 121 (List._∷_ 58 (List._∷_ 58 (List._∷_ 71 (List._∷_ 97 (List._∷_ 116 (List._∷_ 101 (List._∷_ 119 (List._∷_ 97 (List._∷_ 121 (List._∷_ 65 (List._∷_ 110 (List._∷_ 115 (List._∷_ 119 (List._∷_ 101 (List._∷_ 114 List.[])))))))))))))))))))))) (Syntax.tcons (Syntax.tyInt Syntax.w64) (Syntax.tcons (Syntax.tyInt Syntax.w64) (Syntax.tcons (Syntax.tyInt Syntax.w64) (Syntax.tcons (Syntax.tyInt Syntax.w64) Syntax.tnil)))))) (List._∷_ (1, Rows.sslice (Referent.rtF (Referent.fInt Syntax.w8)) (Syntax.tyRef (Syntax.named 0) Syntax.imm (Syntax.tyInt Syntax.w8)) 0) (List._∷_ (2, Rows.sc-here (Row.sInt Syntax.w64)) (List._∷_ (3, Rows.sc-here Row.sBool) (List._∷_ (4, Relend.mslice-owed (Referent.rtF (Referent.fInt Syntax.w64)) (Syntax.tyRef (Syntax.named 1) Syntax.mut (Syntax.tyInt Syntax.w64)) 1 3 Row.off) (List._∷_ (5, Rows.mref-owed Lent.R (Syntax.tyRef (Syntax.named 2) Syntax.mut Lent.refS) 2 4 Row.off) (List._∷_ (6, Rows.sc-here Row.sBool) (List._∷_ (7, Rows.whole (Declared.row Answer.the-type)) (List._∷_ (8, Rows.any-gone (Syntax.tyRef Syntax.erased Syntax.mut (Syntax.tyInt Syntax.w64))) (List._∷_ (9, Mut.msleft (Referent.rtF (Referent.fInt Syntax.w64)) (Syntax.tyRef Syntax.erased Syntax.mut (Syntax.tyInt Syntax.w64))) (List._∷_ (10, Rows.mleft Lent.R (Syntax.tyRef Syntax.erased Syntax.mut Lent.refS)) List.[]))))))))))
@@ -145,13 +145,13 @@ abbrev pub t8 : List.List Row.Entry
 t8 = List._∷_ (0, Rows.whole (Declared.row GatewayAnswer.the-type)) (List._∷_ (1, Rows.sslice (Referent.rtF (Referent.fInt Syntax.w8)) (Syntax.tyRef (Syntax.named 0) Syntax.imm (Syntax.tyInt Syntax.w8)) 0) (List._∷_ (2, Rows.sc-here (Row.sInt Syntax.w64)) (List._∷_ (3, Rows.sc-here Row.sBool) (List._∷_ (4, Mut.mslice (Referent.rtF (Referent.fInt Syntax.w64)) (Syntax.tyRef (Syntax.named 1) Syntax.mut (Syntax.tyInt Syntax.w64)) 1) (List._∷_ (5, Rows.mref Lent.R (Syntax.tyRef (Syntax.named 2) Syntax.mut Lent.refS) 2) (List._∷_ (6, Rows.sc-here Row.sBool) (List._∷_ (7, Rows.whole (Declared.row Answer.the-type)) (List._∷_ (8, Rows.any-gone (Syntax.tyRef Syntax.erased Syntax.mut (Syntax.tyInt Syntax.w64))) (List._∷_ (9, Rows.any-gone (Syntax.tyStruct (List._∷_ 38 (List._∷_ 91 (List._∷_ 93 List.[]))) (Syntax.tcons (Syntax.tyRef Syntax.erased Syntax.mut (Syntax.tyInt Syntax.w64)) (Syntax.tcons (Syntax.tyInt Syntax.w64) Syntax.tnil)))) (List._∷_ (10, Rows.any-gone (Syntax.tyRef Syntax.erased Syntax.mut Lent.refS)) List.[]))))))))))
 
 abbrev pub t9 : List.List Row.Entry
-t9 = List._∷_ (0, Rows.whole (Declared.row GatewayAnswer.the-type)) (List._∷_ (1, Rows.sslice (Referent.rtF (Referent.fInt Syntax.w8)) (Syntax.tyRef (Syntax.named 0) Syntax.imm (Syntax.tyInt Syntax.w8)) 0) (List._∷_ (2, Rows.sc-here (Row.sInt Syntax.w64)) (List._∷_ (3, Rows.sc-here Row.sBool) (List._∷_ (4, Mut.mslice (Referent.rtF (Referent.fInt Syntax.w64)) (Syntax.tyRef (Syntax.named 1) Syntax.mut (Syntax.tyInt Syntax.w64)) 1) (List._∷_ (5, Rows.mref Lent.R (Syntax.tyRef (Syntax.named 2) Syntax.mut Lent.refS) 2) (List._∷_ (6, Rows.sc-here Row.sBool) (List._∷_ (7, Rows.any-gone (Syntax.tyStruct (List._∷_ 114 (List._∷_ 117 (List._∷_ 108 (List._∷_ 101 (List._∷_ 115 (List._∷_ 58 (List._∷_ 58 (List._∷_ 65 (List._∷_ 110 (List._∷_ 115 (List._∷_ 119 (List._∷_ 101 (List._∷_ 114 List.[]))))))))))))) (Syntax.tcons (Syntax.tyEnum (List._∷_ 114 (List._∷_ 117 (List._∷_ 108 (List._∷_ 101 (List._∷_ 115 (List._∷_ 58 (List._∷_ 58 (List._∷_ 79 (List._∷_ 117 (List._∷_ 116 (List._∷_ 99 (List._∷_ 111 (List._∷_ 109 (List._∷_ 101 List.[])))))))))))))) (Syntax.ttcons Syntax.tnil (Syntax.ttcons (Syntax.tcons (Syntax.tyInt Syntax.w64) Syntax.tnil) (Syntax.ttcons (Syntax.tcons (Syntax.tyInt Syntax.w64) Syntax.tnil) Syntax.ttnil)))) (Syntax.tcons (Syntax.tyInt Syntax.w64) (Syntax.tcons (Syntax.tyInt Syntax.w64) Syntax.tnil))))) (List._∷_ (8, Rows.any-gone (Syntax.tyRef Syntax.erased Syntax.mut (Syntax.tyInt Syntax.w64))) (List._∷_ (9, Rows.any-gone (Syntax.tyStruct (List._∷_ 38 (List._∷_ 91 (List._∷_ 93 List.[]))) (Syntax.tcons (Syntax.tyRef Syntax.erased Syntax.mut (Syntax.tyInt Syntax.w64)) (Syntax.tcons (Syntax.tyInt Syntax.w64) Syntax.tnil)))) (List._∷_ (10, Rows.any-gone (Syntax.tyRef Syntax.erased Syntax.mut Lent.refS)) List.[]))))))))))
+t9 = List._∷_ (0, Rows.whole (Declared.row GatewayAnswer.the-type)) (List._∷_ (1, Rows.sslice (Referent.rtF (Referent.fInt Syntax.w8)) (Syntax.tyRef (Syntax.named 0) Syntax.imm (Syntax.tyInt Syntax.w8)) 0) (List._∷_ (2, Rows.sc-here (Row.sInt Syntax.w64)) (List._∷_ (3, Rows.sc-here Row.sBool) (List._∷_ (4, Mut.mslice (Referent.rtF (Referent.fInt Syntax.w64)) (Syntax.tyRef (Syntax.named 1) Syntax.mut (Syntax.tyInt Syntax.w64)) 1) (List._∷_ (5, Rows.mref Lent.R (Syntax.tyRef (Syntax.named 2) Syntax.mut Lent.refS) 2) (List._∷_ (6, Rows.sc-here Row.sBool) (List._∷_ (7, Rows.any-gone (Syntax.tyStruct (List._∷_ 114 (List._∷_ 117 (List._∷_ 108 (List._∷_ 101 (List._∷_ 115 (List._∷_ 58 (List._∷_ 58 (List._∷_ 65 (List._∷_ 110 (List._∷_ 115 (List._∷_ 119 (List._∷_ 101 (List._∷_ 114 List.[]))))))))))))) (Syntax.tcons (Syntax.tyEnum (List._∷_ 114 (List._∷_ 117 (List._∷_ 108 (List._∷_ 101 (List._∷_ 115 (List._∷_ 58 (List._∷_ 58 (List._∷_ 79 (List._∷_ 117 (List._∷_ 116 (List._∷_ 99 (List._∷_ 111 (List._∷_ 109 (List._∷_ 101 List.[])))))))))))))) (Syntax.ttcons Syntax.tnil (Syntax.ttcons (Syntax.tcons (Syntax.tyInt Syntax.w16) Syntax.tnil) (Syntax.ttcons (Syntax.tcons (Syntax.tyInt Syntax.w16) Syntax.tnil) Syntax.ttnil)))) (Syntax.tcons (Syntax.tyInt Syntax.w64) (Syntax.tcons (Syntax.tyInt Syntax.w64) Syntax.tnil))))) (List._∷_ (8, Rows.any-gone (Syntax.tyRef Syntax.erased Syntax.mut (Syntax.tyInt Syntax.w64))) (List._∷_ (9, Rows.any-gone (Syntax.tyStruct (List._∷_ 38 (List._∷_ 91 (List._∷_ 93 List.[]))) (Syntax.tcons (Syntax.tyRef Syntax.erased Syntax.mut (Syntax.tyInt Syntax.w64)) (Syntax.tcons (Syntax.tyInt Syntax.w64) Syntax.tnil)))) (List._∷_ (10, Rows.any-gone (Syntax.tyRef Syntax.erased Syntax.mut Lent.refS)) List.[]))))))))))
 
 abbrev pub t10 : List.List Row.Entry
-t10 = List._∷_ (0, Rows.whole (Declared.row GatewayAnswer.the-type)) (List._∷_ (1, Rows.sslice (Referent.rtF (Referent.fInt Syntax.w8)) (Syntax.tyRef (Syntax.named 0) Syntax.imm (Syntax.tyInt Syntax.w8)) 0) (List._∷_ (2, Rows.any-gone (Syntax.tyInt Syntax.w64)) (List._∷_ (3, Rows.sc-here Row.sBool) (List._∷_ (4, Mut.mslice (Referent.rtF (Referent.fInt Syntax.w64)) (Syntax.tyRef (Syntax.named 1) Syntax.mut (Syntax.tyInt Syntax.w64)) 1) (List._∷_ (5, Rows.mref Lent.R (Syntax.tyRef (Syntax.named 2) Syntax.mut Lent.refS) 2) (List._∷_ (6, Rows.sc-here Row.sBool) (List._∷_ (7, Rows.any-gone (Syntax.tyStruct (List._∷_ 114 (List._∷_ 117 (List._∷_ 108 (List._∷_ 101 (List._∷_ 115 (List._∷_ 58 (List._∷_ 58 (List._∷_ 65 (List._∷_ 110 (List._∷_ 115 (List._∷_ 119 (List._∷_ 101 (List._∷_ 114 List.[]))))))))))))) (Syntax.tcons (Syntax.tyEnum (List._∷_ 114 (List._∷_ 117 (List._∷_ 108 (List._∷_ 101 (List._∷_ 115 (List._∷_ 58 (List._∷_ 58 (List._∷_ 79 (List._∷_ 117 (List._∷_ 116 (List._∷_ 99 (List._∷_ 111 (List._∷_ 109 (List._∷_ 101 List.[])))))))))))))) (Syntax.ttcons Syntax.tnil (Syntax.ttcons (Syntax.tcons (Syntax.tyInt Syntax.w64) Syntax.tnil) (Syntax.ttcons (Syntax.tcons (Syntax.tyInt Syntax.w64) Syntax.tnil) Syntax.ttnil)))) (Syntax.tcons (Syntax.tyInt Syntax.w64) (Syntax.tcons (Syntax.tyInt Syntax.w64) Syntax.tnil))))) (List._∷_ (8, Rows.any-gone (Syntax.tyRef Syntax.erased Syntax.mut (Syntax.tyInt Syntax.w64))) (List._∷_ (9, Rows.any-gone (Syntax.tyStruct (List._∷_ 38 (List._∷_ 91 (List._∷_ 93 List.[]))) (Syntax.tcons (Syntax.tyRef Syntax.erased Syntax.mut (Syntax.tyInt Syntax.w64)) (Syntax.tcons (Syntax.tyInt Syntax.w64) Syntax.tnil)))) (List._∷_ (10, Rows.any-gone (Syntax.tyRef Syntax.erased Syntax.mut Lent.refS)) List.[]))))))))))
+t10 = List._∷_ (0, Rows.whole (Declared.row GatewayAnswer.the-type)) (List._∷_ (1, Rows.sslice (Referent.rtF (Referent.fInt Syntax.w8)) (Syntax.tyRef (Syntax.named 0) Syntax.imm (Syntax.tyInt Syntax.w8)) 0) (List._∷_ (2, Rows.any-gone (Syntax.tyInt Syntax.w64)) (List._∷_ (3, Rows.sc-here Row.sBool) (List._∷_ (4, Mut.mslice (Referent.rtF (Referent.fInt Syntax.w64)) (Syntax.tyRef (Syntax.named 1) Syntax.mut (Syntax.tyInt Syntax.w64)) 1) (List._∷_ (5, Rows.mref Lent.R (Syntax.tyRef (Syntax.named 2) Syntax.mut Lent.refS) 2) (List._∷_ (6, Rows.sc-here Row.sBool) (List._∷_ (7, Rows.any-gone (Syntax.tyStruct (List._∷_ 114 (List._∷_ 117 (List._∷_ 108 (List._∷_ 101 (List._∷_ 115 (List._∷_ 58 (List._∷_ 58 (List._∷_ 65 (List._∷_ 110 (List._∷_ 115 (List._∷_ 119 (List._∷_ 101 (List._∷_ 114 List.[]))))))))))))) (Syntax.tcons (Syntax.tyEnum (List._∷_ 114 (List._∷_ 117 (List._∷_ 108 (List._∷_ 101 (List._∷_ 115 (List._∷_ 58 (List._∷_ 58 (List._∷_ 79 (List._∷_ 117 (List._∷_ 116 (List._∷_ 99 (List._∷_ 111 (List._∷_ 109 (List._∷_ 101 List.[])))))))))))))) (Syntax.ttcons Syntax.tnil (Syntax.ttcons (Syntax.tcons (Syntax.tyInt Syntax.w16) Syntax.tnil) (Syntax.ttcons (Syntax.tcons (Syntax.tyInt Syntax.w16) Syntax.tnil) Syntax.ttnil)))) (Syntax.tcons (Syntax.tyInt Syntax.w64) (Syntax.tcons (Syntax.tyInt Syntax.w64) Syntax.tnil))))) (List._∷_ (8, Rows.any-gone (Syntax.tyRef Syntax.erased Syntax.mut (Syntax.tyInt Syntax.w64))) (List._∷_ (9, Rows.any-gone (Syntax.tyStruct (List._∷_ 38 (List._∷_ 91 (List._∷_ 93 List.[]))) (Syntax.tcons (Syntax.tyRef Syntax.erased Syntax.mut (Syntax.tyInt Syntax.w64)) (Syntax.tcons (Syntax.tyInt Syntax.w64) Syntax.tnil)))) (List._∷_ (10, Rows.any-gone (Syntax.tyRef Syntax.erased Syntax.mut Lent.refS)) List.[]))))))))))
 
 abbrev pub t11 : List.List Row.Entry
-t11 = List._∷_ (0, Rows.whole (Declared.row GatewayAnswer.the-type)) (List._∷_ (1, Rows.sslice (Referent.rtF (Referent.fInt Syntax.w8)) (Syntax.tyRef (Syntax.named 0) Syntax.imm (Syntax.tyInt Syntax.w8)) 0) (List._∷_ (2, Rows.any-gone (Syntax.tyInt Syntax.w64)) (List._∷_ (3, Rows.any-gone Syntax.tyBool) (List._∷_ (4, Mut.mslice (Referent.rtF (Referent.fInt Syntax.w64)) (Syntax.tyRef (Syntax.named 1) Syntax.mut (Syntax.tyInt Syntax.w64)) 1) (List._∷_ (5, Rows.mref Lent.R (Syntax.tyRef (Syntax.named 2) Syntax.mut Lent.refS) 2) (List._∷_ (6, Rows.sc-here Row.sBool) (List._∷_ (7, Rows.any-gone (Syntax.tyStruct (List._∷_ 114 (List._∷_ 117 (List._∷_ 108 (List._∷_ 101 (List._∷_ 115 (List._∷_ 58 (List._∷_ 58 (List._∷_ 65 (List._∷_ 110 (List._∷_ 115 (List._∷_ 119 (List._∷_ 101 (List._∷_ 114 List.[]))))))))))))) (Syntax.tcons (Syntax.tyEnum (List._∷_ 114 (List._∷_ 117 (List._∷_ 108 (List._∷_ 101 (List._∷_ 115 (List._∷_ 58 (List._∷_ 58 (List._∷_ 79 (List._∷_ 117 (List._∷_ 116 (List._∷_ 99 (List._∷_ 111 (List._∷_ 109 (List._∷_ 101 List.[])))))))))))))) (Syntax.ttcons Syntax.tnil (Syntax.ttcons (Syntax.tcons (Syntax.tyInt Syntax.w64) Syntax.tnil) (Syntax.ttcons (Syntax.tcons (Syntax.tyInt Syntax.w64) Syntax.tnil) Syntax.ttnil)))) (Syntax.tcons (Syntax.tyInt Syntax.w64) (Syntax.tcons (Syntax.tyInt Syntax.w64) Syntax.tnil))))) (List._∷_ (8, Rows.any-gone (Syntax.tyRef Syntax.erased Syntax.mut (Syntax.tyInt Syntax.w64))) (List._∷_ (9, Rows.any-gone (Syntax.tyStruct (List._∷_ 38 (List._∷_ 91 (List._∷_ 93 List.[]))) (Syntax.tcons (Syntax.tyRef Syntax.erased Syntax.mut (Syntax.tyInt Syntax.w64)) (Syntax.tcons (Syntax.tyInt Syntax.w64) Syntax.tnil)))) (List._∷_ (10, Rows.any-gone (Syntax.tyRef Syntax.erased Syntax.mut Lent.refS)) List.[]))))))))))
+t11 = List._∷_ (0, Rows.whole (Declared.row GatewayAnswer.the-type)) (List._∷_ (1, Rows.sslice (Referent.rtF (Referent.fInt Syntax.w8)) (Syntax.tyRef (Syntax.named 0) Syntax.imm (Syntax.tyInt Syntax.w8)) 0) (List._∷_ (2, Rows.any-gone (Syntax.tyInt Syntax.w64)) (List._∷_ (3, Rows.any-gone Syntax.tyBool) (List._∷_ (4, Mut.mslice (Referent.rtF (Referent.fInt Syntax.w64)) (Syntax.tyRef (Syntax.named 1) Syntax.mut (Syntax.tyInt Syntax.w64)) 1) (List._∷_ (5, Rows.mref Lent.R (Syntax.tyRef (Syntax.named 2) Syntax.mut Lent.refS) 2) (List._∷_ (6, Rows.sc-here Row.sBool) (List._∷_ (7, Rows.any-gone (Syntax.tyStruct (List._∷_ 114 (List._∷_ 117 (List._∷_ 108 (List._∷_ 101 (List._∷_ 115 (List._∷_ 58 (List._∷_ 58 (List._∷_ 65 (List._∷_ 110 (List._∷_ 115 (List._∷_ 119 (List._∷_ 101 (List._∷_ 114 List.[]))))))))))))) (Syntax.tcons (Syntax.tyEnum (List._∷_ 114 (List._∷_ 117 (List._∷_ 108 (List._∷_ 101 (List._∷_ 115 (List._∷_ 58 (List._∷_ 58 (List._∷_ 79 (List._∷_ 117 (List._∷_ 116 (List._∷_ 99 (List._∷_ 111 (List._∷_ 109 (List._∷_ 101 List.[])))))))))))))) (Syntax.ttcons Syntax.tnil (Syntax.ttcons (Syntax.tcons (Syntax.tyInt Syntax.w16) Syntax.tnil) (Syntax.ttcons (Syntax.tcons (Syntax.tyInt Syntax.w16) Syntax.tnil) Syntax.ttnil)))) (Syntax.tcons (Syntax.tyInt Syntax.w64) (Syntax.tcons (Syntax.tyInt Syntax.w64) Syntax.tnil))))) (List._∷_ (8, Rows.any-gone (Syntax.tyRef Syntax.erased Syntax.mut (Syntax.tyInt Syntax.w64))) (List._∷_ (9, Rows.any-gone (Syntax.tyStruct (List._∷_ 38 (List._∷_ 91 (List._∷_ 93 List.[]))) (Syntax.tcons (Syntax.tyRef Syntax.erased Syntax.mut (Syntax.tyInt Syntax.w64)) (Syntax.tcons (Syntax.tyInt Syntax.w64) Syntax.tnil)))) (List._∷_ (10, Rows.any-gone (Syntax.tyRef Syntax.erased Syntax.mut Lent.refS)) List.[]))))))))))
 
 abbrev pub T0 : Row.Cx
 T0 = record { locals = t0; slots = List.[] }
@@ -221,7 +221,7 @@ module _ (claims· : Claims) where
   s6 = Reborrow.k-mref-relend T6 5 10 2 4 Lent.R (Syntax.tyRef (Syntax.named 2) Syntax.mut Lent.refS) (Syntax.tyRef Syntax.erased Syntax.mut Lent.refS) Row.off List.[] λ x. x
 
   abbrev s7 : Typed.Both T8 T9
-  s7 = Call.callB ps·0 r·0 (claims· .0) (claims· .1) T8 (record { pos = 1; ty = Syntax.tyRef (Syntax.named 0) Syntax.imm (Syntax.tyInt Syntax.w8); ref = λ x. x }, (Num.vAt 2 λ x. x, (Bool.bAt 3 λ x. x, (record { pos = 9; ty = Syntax.tyRef Syntax.erased Syntax.mut (Syntax.tyInt Syntax.w64); ref = λ x. x }, (record { pos = 10; ty = Syntax.tyRef Syntax.erased Syntax.mut Lent.refS; ref = λ x. x }, (Bool.bAt 6 λ x. x, tt)))))) 7 (List._∷_ 0 (List._∷_ 3 (List._∷_ 4 List.[]))) (Syntax.tyStruct (List._∷_ 114 (List._∷_ 117 (List._∷_ 108 (List._∷_ 101 (List._∷_ 115 (List._∷_ 58 (List._∷_ 58 (List._∷_ 65 (List._∷_ 110 (List._∷_ 115 (List._∷_ 119 (List._∷_ 101 (List._∷_ 114 List.[]))))))))))))) (Syntax.tcons (Syntax.tyEnum (List._∷_ 114 (List._∷_ 117 (List._∷_ 108 (List._∷_ 101 (List._∷_ 115 (List._∷_ 58 (List._∷_ 58 (List._∷_ 79 (List._∷_ 117 (List._∷_ 116 (List._∷_ 99 (List._∷_ 111 (List._∷_ 109 (List._∷_ 101 List.[])))))))))))))) (Syntax.ttcons Syntax.tnil (Syntax.ttcons (Syntax.tcons (Syntax.tyInt Syntax.w64) Syntax.tnil) (Syntax.ttcons (Syntax.tcons (Syntax.tyInt Syntax.w64) Syntax.tnil) Syntax.ttnil)))) (Syntax.tcons (Syntax.tyInt Syntax.w64) (Syntax.tcons (Syntax.tyInt Syntax.w64) Syntax.tnil))))
+  s7 = Call.callB ps·0 r·0 (claims· .0) (claims· .1) T8 (record { pos = 1; ty = Syntax.tyRef (Syntax.named 0) Syntax.imm (Syntax.tyInt Syntax.w8); ref = λ x. x }, (Num.vAt 2 λ x. x, (Bool.bAt 3 λ x. x, (record { pos = 9; ty = Syntax.tyRef Syntax.erased Syntax.mut (Syntax.tyInt Syntax.w64); ref = λ x. x }, (record { pos = 10; ty = Syntax.tyRef Syntax.erased Syntax.mut Lent.refS; ref = λ x. x }, (Bool.bAt 6 λ x. x, tt)))))) 7 (List._∷_ 0 (List._∷_ 3 (List._∷_ 4 List.[]))) (Syntax.tyStruct (List._∷_ 114 (List._∷_ 117 (List._∷_ 108 (List._∷_ 101 (List._∷_ 115 (List._∷_ 58 (List._∷_ 58 (List._∷_ 65 (List._∷_ 110 (List._∷_ 115 (List._∷_ 119 (List._∷_ 101 (List._∷_ 114 List.[]))))))))))))) (Syntax.tcons (Syntax.tyEnum (List._∷_ 114 (List._∷_ 117 (List._∷_ 108 (List._∷_ 101 (List._∷_ 115 (List._∷_ 58 (List._∷_ 58 (List._∷_ 79 (List._∷_ 117 (List._∷_ 116 (List._∷_ 99 (List._∷_ 111 (List._∷_ 109 (List._∷_ 101 List.[])))))))))))))) (Syntax.ttcons Syntax.tnil (Syntax.ttcons (Syntax.tcons (Syntax.tyInt Syntax.w16) Syntax.tnil) (Syntax.ttcons (Syntax.tcons (Syntax.tyInt Syntax.w16) Syntax.tnil) Syntax.ttnil)))) (Syntax.tcons (Syntax.tyInt Syntax.w64) (Syntax.tcons (Syntax.tyInt Syntax.w64) Syntax.tnil))))
 
   abbrev s9 : Typed.Both T9 T11
   s9 = Relend.k-back-sl (Referent.rtF (Referent.fInt Syntax.w64)) T9 9 4 1 3 (Syntax.tyRef (Syntax.named 1) Syntax.mut (Syntax.tyInt Syntax.w64)) (Syntax.tyRef Syntax.erased Syntax.mut (Syntax.tyInt Syntax.w64)) Row.off (λ x. x) λ x. x
@@ -236,7 +236,7 @@ module _ (claims· : Claims) where
   s15 = Call.callB ps·1 r·1 (claims· .2) (claims· .3) T15 (record { pos = 7; st = List.[]; d = 0; at = λ x. x }, tt) 0 List.[] (Syntax.tyStruct (List._∷_ 103 (List._∷_ 97 (List._∷_ 116 (List._∷_ 101 (List._∷_ 119 (List._∷_ 97 (List._∷_ 121 (List._∷_ 58 (List._∷_ 58 (List._∷_ 71 (List._∷_ 97 (List._∷_ 116 (List._∷_ 101 (List._∷_ 119 (List._∷_ 97 (List._∷_ 121 (List._∷_ 65 (List._∷_ 110 (List._∷_ 115 (List._∷_ 119 (List._∷_ 101 (List._∷_ 114 List.[])))))))))))))))))))))) (Syntax.tcons (Syntax.tyInt Syntax.w64) (Syntax.tcons (Syntax.tyInt Syntax.w64) (Syntax.tcons (Syntax.tyInt Syntax.w64) (Syntax.tcons (Syntax.tyInt Syntax.w64) Syntax.tnil)))))
 
   abbrev s16 : Typed.Mo T17 → Typed.Mo T18
-  s16 = Scalar.n-room T17 7 (Syntax.tyStruct (List._∷_ 114 (List._∷_ 117 (List._∷_ 108 (List._∷_ 101 (List._∷_ 115 (List._∷_ 58 (List._∷_ 58 (List._∷_ 65 (List._∷_ 110 (List._∷_ 115 (List._∷_ 119 (List._∷_ 101 (List._∷_ 114 List.[]))))))))))))) (Syntax.tcons (Syntax.tyEnum (List._∷_ 114 (List._∷_ 117 (List._∷_ 108 (List._∷_ 101 (List._∷_ 115 (List._∷_ 58 (List._∷_ 58 (List._∷_ 79 (List._∷_ 117 (List._∷_ 116 (List._∷_ 99 (List._∷_ 111 (List._∷_ 109 (List._∷_ 101 List.[])))))))))))))) (Syntax.ttcons Syntax.tnil (Syntax.ttcons (Syntax.tcons (Syntax.tyInt Syntax.w64) Syntax.tnil) (Syntax.ttcons (Syntax.tcons (Syntax.tyInt Syntax.w64) Syntax.tnil) Syntax.ttnil)))) (Syntax.tcons (Syntax.tyInt Syntax.w64) (Syntax.tcons (Syntax.tyInt Syntax.w64) Syntax.tnil))))
+  s16 = Scalar.n-room T17 7 (Syntax.tyStruct (List._∷_ 114 (List._∷_ 117 (List._∷_ 108 (List._∷_ 101 (List._∷_ 115 (List._∷_ 58 (List._∷_ 58 (List._∷_ 65 (List._∷_ 110 (List._∷_ 115 (List._∷_ 119 (List._∷_ 101 (List._∷_ 114 List.[]))))))))))))) (Syntax.tcons (Syntax.tyEnum (List._∷_ 114 (List._∷_ 117 (List._∷_ 108 (List._∷_ 101 (List._∷_ 115 (List._∷_ 58 (List._∷_ 58 (List._∷_ 79 (List._∷_ 117 (List._∷_ 116 (List._∷_ 99 (List._∷_ 111 (List._∷_ 109 (List._∷_ 101 List.[])))))))))))))) (Syntax.ttcons Syntax.tnil (Syntax.ttcons (Syntax.tcons (Syntax.tyInt Syntax.w16) Syntax.tnil) (Syntax.ttcons (Syntax.tcons (Syntax.tyInt Syntax.w16) Syntax.tnil) Syntax.ttnil)))) (Syntax.tcons (Syntax.tyInt Syntax.w64) (Syntax.tcons (Syntax.tyInt Syntax.w64) Syntax.tnil))))
 
   abbrev s17 : Typed.Mo T18 → Typed.Mo T19
   s17 = Scalar.n-room T18 2 (Syntax.tyInt Syntax.w64)
@@ -325,13 +325,13 @@ module _ (claims· : Claims) where
 
       module _ (κs : Lifetimes.Lfts 3) (qs : Lifetimes.Shares 3) where
         abbrev g2 : List.List Row.Entry
-        g2 = List._∷_ (0, Rows.any-gone (Syntax.tyStruct (List._∷_ 103 (List._∷_ 97 (List._∷_ 116 (List._∷_ 101 (List._∷_ 119 (List._∷_ 97 (List._∷_ 121 (List._∷_ 58 (List._∷_ 58 (List._∷_ 71 (List._∷_ 97 (List._∷_ 116 (List._∷_ 101 (List._∷_ 119 (List._∷_ 97 (List._∷_ 121 (List._∷_ 65 (List._∷_ 110 (List._∷_ 115 (List._∷_ 119 (List._∷_ 101 (List._∷_ 114 List.[])))))))))))))))))))))) (Syntax.tcons (Syntax.tyInt Syntax.w64) (Syntax.tcons (Syntax.tyInt Syntax.w64) (Syntax.tcons (Syntax.tyInt Syntax.w64) (Syntax.tcons (Syntax.tyInt Syntax.w64) Syntax.tnil)))))) (List._∷_ (1, Rows.sslice (Referent.rtF (Referent.fInt Syntax.w8)) (Syntax.tyRef (Syntax.named 0) Syntax.imm (Syntax.tyInt Syntax.w8)) 0) (List._∷_ (2, Rows.sc-here (Row.sInt Syntax.w64)) (List._∷_ (3, Rows.sc-here Row.sBool) (List._∷_ (4, Relend.mslice-owed (Referent.rtF (Referent.fInt Syntax.w64)) (Syntax.tyRef (Syntax.named 1) Syntax.mut (Syntax.tyInt Syntax.w64)) 1 3 (Row.lease (κs .1 .0) (qs .1 .0))) (List._∷_ (5, Rows.mref Lent.R (Syntax.tyRef (Syntax.named 2) Syntax.mut Lent.refS) 2) (List._∷_ (6, Rows.sc-here Row.sBool) (List._∷_ (7, Rows.any-gone (Syntax.tyStruct (List._∷_ 114 (List._∷_ 117 (List._∷_ 108 (List._∷_ 101 (List._∷_ 115 (List._∷_ 58 (List._∷_ 58 (List._∷_ 65 (List._∷_ 110 (List._∷_ 115 (List._∷_ 119 (List._∷_ 101 (List._∷_ 114 List.[]))))))))))))) (Syntax.tcons (Syntax.tyEnum (List._∷_ 114 (List._∷_ 117 (List._∷_ 108 (List._∷_ 101 (List._∷_ 115 (List._∷_ 58 (List._∷_ 58 (List._∷_ 79 (List._∷_ 117 (List._∷_ 116 (List._∷_ 99 (List._∷_ 111 (List._∷_ 109 (List._∷_ 101 List.[])))))))))))))) (Syntax.ttcons Syntax.tnil (Syntax.ttcons (Syntax.tcons (Syntax.tyInt Syntax.w64) Syntax.tnil) (Syntax.ttcons (Syntax.tcons (Syntax.tyInt Syntax.w64) Syntax.tnil) Syntax.ttnil)))) (Syntax.tcons (Syntax.tyInt Syntax.w64) (Syntax.tcons (Syntax.tyInt Syntax.w64) Syntax.tnil))))) (List._∷_ (8, Relend.msptr (Referent.rtF (Referent.fInt Syntax.w64)) (Syntax.tyRef Syntax.erased Syntax.mut (Syntax.tyInt Syntax.w64)) 3) (List._∷_ (9, Rows.any-gone (Syntax.tyStruct (List._∷_ 38 (List._∷_ 91 (List._∷_ 93 List.[]))) (Syntax.tcons (Syntax.tyRef Syntax.erased Syntax.mut (Syntax.tyInt Syntax.w64)) (Syntax.tcons (Syntax.tyInt Syntax.w64) Syntax.tnil)))) (List._∷_ (10, Rows.any-gone (Syntax.tyRef Syntax.erased Syntax.mut Lent.refS)) List.[]))))))))))
+        g2 = List._∷_ (0, Rows.any-gone (Syntax.tyStruct (List._∷_ 103 (List._∷_ 97 (List._∷_ 116 (List._∷_ 101 (List._∷_ 119 (List._∷_ 97 (List._∷_ 121 (List._∷_ 58 (List._∷_ 58 (List._∷_ 71 (List._∷_ 97 (List._∷_ 116 (List._∷_ 101 (List._∷_ 119 (List._∷_ 97 (List._∷_ 121 (List._∷_ 65 (List._∷_ 110 (List._∷_ 115 (List._∷_ 119 (List._∷_ 101 (List._∷_ 114 List.[])))))))))))))))))))))) (Syntax.tcons (Syntax.tyInt Syntax.w64) (Syntax.tcons (Syntax.tyInt Syntax.w64) (Syntax.tcons (Syntax.tyInt Syntax.w64) (Syntax.tcons (Syntax.tyInt Syntax.w64) Syntax.tnil)))))) (List._∷_ (1, Rows.sslice (Referent.rtF (Referent.fInt Syntax.w8)) (Syntax.tyRef (Syntax.named 0) Syntax.imm (Syntax.tyInt Syntax.w8)) 0) (List._∷_ (2, Rows.sc-here (Row.sInt Syntax.w64)) (List._∷_ (3, Rows.sc-here Row.sBool) (List._∷_ (4, Relend.mslice-owed (Referent.rtF (Referent.fInt Syntax.w64)) (Syntax.tyRef (Syntax.named 1) Syntax.mut (Syntax.tyInt Syntax.w64)) 1 3 (Row.lease (κs .1 .0) (qs .1 .0))) (List._∷_ (5, Rows.mref Lent.R (Syntax.tyRef (Syntax.named 2) Syntax.mut Lent.refS) 2) (List._∷_ (6, Rows.sc-here Row.sBool) (List._∷_ (7, Rows.any-gone (Syntax.tyStruct (List._∷_ 114 (List._∷_ 117 (List._∷_ 108 (List._∷_ 101 (List._∷_ 115 (List._∷_ 58 (List._∷_ 58 (List._∷_ 65 (List._∷_ 110 (List._∷_ 115 (List._∷_ 119 (List._∷_ 101 (List._∷_ 114 List.[]))))))))))))) (Syntax.tcons (Syntax.tyEnum (List._∷_ 114 (List._∷_ 117 (List._∷_ 108 (List._∷_ 101 (List._∷_ 115 (List._∷_ 58 (List._∷_ 58 (List._∷_ 79 (List._∷_ 117 (List._∷_ 116 (List._∷_ 99 (List._∷_ 111 (List._∷_ 109 (List._∷_ 101 List.[])))))))))))))) (Syntax.ttcons Syntax.tnil (Syntax.ttcons (Syntax.tcons (Syntax.tyInt Syntax.w16) Syntax.tnil) (Syntax.ttcons (Syntax.tcons (Syntax.tyInt Syntax.w16) Syntax.tnil) Syntax.ttnil)))) (Syntax.tcons (Syntax.tyInt Syntax.w64) (Syntax.tcons (Syntax.tyInt Syntax.w64) Syntax.tnil))))) (List._∷_ (8, Relend.msptr (Referent.rtF (Referent.fInt Syntax.w64)) (Syntax.tyRef Syntax.erased Syntax.mut (Syntax.tyInt Syntax.w64)) 3) (List._∷_ (9, Rows.any-gone (Syntax.tyStruct (List._∷_ 38 (List._∷_ 91 (List._∷_ 93 List.[]))) (Syntax.tcons (Syntax.tyRef Syntax.erased Syntax.mut (Syntax.tyInt Syntax.w64)) (Syntax.tcons (Syntax.tyInt Syntax.w64) Syntax.tnil)))) (List._∷_ (10, Rows.any-gone (Syntax.tyRef Syntax.erased Syntax.mut Lent.refS)) List.[]))))))))))
 
         abbrev g3 : List.List Row.Entry
-        g3 = List._∷_ (0, Rows.any-gone (Syntax.tyStruct (List._∷_ 103 (List._∷_ 97 (List._∷_ 116 (List._∷_ 101 (List._∷_ 119 (List._∷_ 97 (List._∷_ 121 (List._∷_ 58 (List._∷_ 58 (List._∷_ 71 (List._∷_ 97 (List._∷_ 116 (List._∷_ 101 (List._∷_ 119 (List._∷_ 97 (List._∷_ 121 (List._∷_ 65 (List._∷_ 110 (List._∷_ 115 (List._∷_ 119 (List._∷_ 101 (List._∷_ 114 List.[])))))))))))))))))))))) (Syntax.tcons (Syntax.tyInt Syntax.w64) (Syntax.tcons (Syntax.tyInt Syntax.w64) (Syntax.tcons (Syntax.tyInt Syntax.w64) (Syntax.tcons (Syntax.tyInt Syntax.w64) Syntax.tnil)))))) (List._∷_ (1, Rows.sslice (Referent.rtF (Referent.fInt Syntax.w8)) (Syntax.tyRef (Syntax.named 0) Syntax.imm (Syntax.tyInt Syntax.w8)) 0) (List._∷_ (2, Rows.sc-here (Row.sInt Syntax.w64)) (List._∷_ (3, Rows.sc-here Row.sBool) (List._∷_ (4, Relend.mslice-owed (Referent.rtF (Referent.fInt Syntax.w64)) (Syntax.tyRef (Syntax.named 1) Syntax.mut (Syntax.tyInt Syntax.w64)) 1 3 (Row.lease (κs .1 .0) (qs .1 .0))) (List._∷_ (5, Rows.mref Lent.R (Syntax.tyRef (Syntax.named 2) Syntax.mut Lent.refS) 2) (List._∷_ (6, Rows.sc-here Row.sBool) (List._∷_ (7, Rows.any-gone (Syntax.tyStruct (List._∷_ 114 (List._∷_ 117 (List._∷_ 108 (List._∷_ 101 (List._∷_ 115 (List._∷_ 58 (List._∷_ 58 (List._∷_ 65 (List._∷_ 110 (List._∷_ 115 (List._∷_ 119 (List._∷_ 101 (List._∷_ 114 List.[]))))))))))))) (Syntax.tcons (Syntax.tyEnum (List._∷_ 114 (List._∷_ 117 (List._∷_ 108 (List._∷_ 101 (List._∷_ 115 (List._∷_ 58 (List._∷_ 58 (List._∷_ 79 (List._∷_ 117 (List._∷_ 116 (List._∷_ 99 (List._∷_ 111 (List._∷_ 109 (List._∷_ 101 List.[])))))))))))))) (Syntax.ttcons Syntax.tnil (Syntax.ttcons (Syntax.tcons (Syntax.tyInt Syntax.w64) Syntax.tnil) (Syntax.ttcons (Syntax.tcons (Syntax.tyInt Syntax.w64) Syntax.tnil) Syntax.ttnil)))) (Syntax.tcons (Syntax.tyInt Syntax.w64) (Syntax.tcons (Syntax.tyInt Syntax.w64) Syntax.tnil))))) (List._∷_ (8, Rows.any-gone (Syntax.tyRef Syntax.erased Syntax.mut (Syntax.tyInt Syntax.w64))) (List._∷_ (9, Mut.mslice (Referent.rtF (Referent.fInt Syntax.w64)) (Syntax.tyRef Syntax.erased Syntax.mut (Syntax.tyInt Syntax.w64)) 3) (List._∷_ (10, Rows.any-gone (Syntax.tyRef Syntax.erased Syntax.mut Lent.refS)) List.[]))))))))))
+        g3 = List._∷_ (0, Rows.any-gone (Syntax.tyStruct (List._∷_ 103 (List._∷_ 97 (List._∷_ 116 (List._∷_ 101 (List._∷_ 119 (List._∷_ 97 (List._∷_ 121 (List._∷_ 58 (List._∷_ 58 (List._∷_ 71 (List._∷_ 97 (List._∷_ 116 (List._∷_ 101 (List._∷_ 119 (List._∷_ 97 (List._∷_ 121 (List._∷_ 65 (List._∷_ 110 (List._∷_ 115 (List._∷_ 119 (List._∷_ 101 (List._∷_ 114 List.[])))))))))))))))))))))) (Syntax.tcons (Syntax.tyInt Syntax.w64) (Syntax.tcons (Syntax.tyInt Syntax.w64) (Syntax.tcons (Syntax.tyInt Syntax.w64) (Syntax.tcons (Syntax.tyInt Syntax.w64) Syntax.tnil)))))) (List._∷_ (1, Rows.sslice (Referent.rtF (Referent.fInt Syntax.w8)) (Syntax.tyRef (Syntax.named 0) Syntax.imm (Syntax.tyInt Syntax.w8)) 0) (List._∷_ (2, Rows.sc-here (Row.sInt Syntax.w64)) (List._∷_ (3, Rows.sc-here Row.sBool) (List._∷_ (4, Relend.mslice-owed (Referent.rtF (Referent.fInt Syntax.w64)) (Syntax.tyRef (Syntax.named 1) Syntax.mut (Syntax.tyInt Syntax.w64)) 1 3 (Row.lease (κs .1 .0) (qs .1 .0))) (List._∷_ (5, Rows.mref Lent.R (Syntax.tyRef (Syntax.named 2) Syntax.mut Lent.refS) 2) (List._∷_ (6, Rows.sc-here Row.sBool) (List._∷_ (7, Rows.any-gone (Syntax.tyStruct (List._∷_ 114 (List._∷_ 117 (List._∷_ 108 (List._∷_ 101 (List._∷_ 115 (List._∷_ 58 (List._∷_ 58 (List._∷_ 65 (List._∷_ 110 (List._∷_ 115 (List._∷_ 119 (List._∷_ 101 (List._∷_ 114 List.[]))))))))))))) (Syntax.tcons (Syntax.tyEnum (List._∷_ 114 (List._∷_ 117 (List._∷_ 108 (List._∷_ 101 (List._∷_ 115 (List._∷_ 58 (List._∷_ 58 (List._∷_ 79 (List._∷_ 117 (List._∷_ 116 (List._∷_ 99 (List._∷_ 111 (List._∷_ 109 (List._∷_ 101 List.[])))))))))))))) (Syntax.ttcons Syntax.tnil (Syntax.ttcons (Syntax.tcons (Syntax.tyInt Syntax.w16) Syntax.tnil) (Syntax.ttcons (Syntax.tcons (Syntax.tyInt Syntax.w16) Syntax.tnil) Syntax.ttnil)))) (Syntax.tcons (Syntax.tyInt Syntax.w64) (Syntax.tcons (Syntax.tyInt Syntax.w64) Syntax.tnil))))) (List._∷_ (8, Rows.any-gone (Syntax.tyRef Syntax.erased Syntax.mut (Syntax.tyInt Syntax.w64))) (List._∷_ (9, Mut.mslice (Referent.rtF (Referent.fInt Syntax.w64)) (Syntax.tyRef Syntax.erased Syntax.mut (Syntax.tyInt Syntax.w64)) 3) (List._∷_ (10, Rows.any-gone (Syntax.tyRef Syntax.erased Syntax.mut Lent.refS)) List.[]))))))))))
 
         abbrev g4 : List.List Row.Entry
-        g4 = List._∷_ (0, Rows.any-gone (Syntax.tyStruct (List._∷_ 103 (List._∷_ 97 (List._∷_ 116 (List._∷_ 101 (List._∷_ 119 (List._∷_ 97 (List._∷_ 121 (List._∷_ 58 (List._∷_ 58 (List._∷_ 71 (List._∷_ 97 (List._∷_ 116 (List._∷_ 101 (List._∷_ 119 (List._∷_ 97 (List._∷_ 121 (List._∷_ 65 (List._∷_ 110 (List._∷_ 115 (List._∷_ 119 (List._∷_ 101 (List._∷_ 114 List.[])))))))))))))))))))))) (Syntax.tcons (Syntax.tyInt Syntax.w64) (Syntax.tcons (Syntax.tyInt Syntax.w64) (Syntax.tcons (Syntax.tyInt Syntax.w64) (Syntax.tcons (Syntax.tyInt Syntax.w64) Syntax.tnil)))))) (List._∷_ (1, Rows.sslice (Referent.rtF (Referent.fInt Syntax.w8)) (Syntax.tyRef (Syntax.named 0) Syntax.imm (Syntax.tyInt Syntax.w8)) 0) (List._∷_ (2, Rows.sc-here (Row.sInt Syntax.w64)) (List._∷_ (3, Rows.sc-here Row.sBool) (List._∷_ (4, Relend.mslice-owed (Referent.rtF (Referent.fInt Syntax.w64)) (Syntax.tyRef (Syntax.named 1) Syntax.mut (Syntax.tyInt Syntax.w64)) 1 3 (Row.lease (κs .1 .0) (qs .1 .0))) (List._∷_ (5, Rows.mref-owed Lent.R (Syntax.tyRef (Syntax.named 2) Syntax.mut Lent.refS) 2 4 (Row.lease (κs .1 .1 .0) (qs .1 .1 .0))) (List._∷_ (6, Rows.sc-here Row.sBool) (List._∷_ (7, Rows.any-gone (Syntax.tyStruct (List._∷_ 114 (List._∷_ 117 (List._∷_ 108 (List._∷_ 101 (List._∷_ 115 (List._∷_ 58 (List._∷_ 58 (List._∷_ 65 (List._∷_ 110 (List._∷_ 115 (List._∷_ 119 (List._∷_ 101 (List._∷_ 114 List.[]))))))))))))) (Syntax.tcons (Syntax.tyEnum (List._∷_ 114 (List._∷_ 117 (List._∷_ 108 (List._∷_ 101 (List._∷_ 115 (List._∷_ 58 (List._∷_ 58 (List._∷_ 79 (List._∷_ 117 (List._∷_ 116 (List._∷_ 99 (List._∷_ 111 (List._∷_ 109 (List._∷_ 101 List.[])))))))))))))) (Syntax.ttcons Syntax.tnil (Syntax.ttcons (Syntax.tcons (Syntax.tyInt Syntax.w64) Syntax.tnil) (Syntax.ttcons (Syntax.tcons (Syntax.tyInt Syntax.w64) Syntax.tnil) Syntax.ttnil)))) (Syntax.tcons (Syntax.tyInt Syntax.w64) (Syntax.tcons (Syntax.tyInt Syntax.w64) Syntax.tnil))))) (List._∷_ (8, Rows.any-gone (Syntax.tyRef Syntax.erased Syntax.mut (Syntax.tyInt Syntax.w64))) (List._∷_ (9, Mut.mslice (Referent.rtF (Referent.fInt Syntax.w64)) (Syntax.tyRef Syntax.erased Syntax.mut (Syntax.tyInt Syntax.w64)) 3) (List._∷_ (10, Rows.mref Lent.R (Syntax.tyRef Syntax.erased Syntax.mut Lent.refS) 4) List.[]))))))))))
+        g4 = List._∷_ (0, Rows.any-gone (Syntax.tyStruct (List._∷_ 103 (List._∷_ 97 (List._∷_ 116 (List._∷_ 101 (List._∷_ 119 (List._∷_ 97 (List._∷_ 121 (List._∷_ 58 (List._∷_ 58 (List._∷_ 71 (List._∷_ 97 (List._∷_ 116 (List._∷_ 101 (List._∷_ 119 (List._∷_ 97 (List._∷_ 121 (List._∷_ 65 (List._∷_ 110 (List._∷_ 115 (List._∷_ 119 (List._∷_ 101 (List._∷_ 114 List.[])))))))))))))))))))))) (Syntax.tcons (Syntax.tyInt Syntax.w64) (Syntax.tcons (Syntax.tyInt Syntax.w64) (Syntax.tcons (Syntax.tyInt Syntax.w64) (Syntax.tcons (Syntax.tyInt Syntax.w64) Syntax.tnil)))))) (List._∷_ (1, Rows.sslice (Referent.rtF (Referent.fInt Syntax.w8)) (Syntax.tyRef (Syntax.named 0) Syntax.imm (Syntax.tyInt Syntax.w8)) 0) (List._∷_ (2, Rows.sc-here (Row.sInt Syntax.w64)) (List._∷_ (3, Rows.sc-here Row.sBool) (List._∷_ (4, Relend.mslice-owed (Referent.rtF (Referent.fInt Syntax.w64)) (Syntax.tyRef (Syntax.named 1) Syntax.mut (Syntax.tyInt Syntax.w64)) 1 3 (Row.lease (κs .1 .0) (qs .1 .0))) (List._∷_ (5, Rows.mref-owed Lent.R (Syntax.tyRef (Syntax.named 2) Syntax.mut Lent.refS) 2 4 (Row.lease (κs .1 .1 .0) (qs .1 .1 .0))) (List._∷_ (6, Rows.sc-here Row.sBool) (List._∷_ (7, Rows.any-gone (Syntax.tyStruct (List._∷_ 114 (List._∷_ 117 (List._∷_ 108 (List._∷_ 101 (List._∷_ 115 (List._∷_ 58 (List._∷_ 58 (List._∷_ 65 (List._∷_ 110 (List._∷_ 115 (List._∷_ 119 (List._∷_ 101 (List._∷_ 114 List.[]))))))))))))) (Syntax.tcons (Syntax.tyEnum (List._∷_ 114 (List._∷_ 117 (List._∷_ 108 (List._∷_ 101 (List._∷_ 115 (List._∷_ 58 (List._∷_ 58 (List._∷_ 79 (List._∷_ 117 (List._∷_ 116 (List._∷_ 99 (List._∷_ 111 (List._∷_ 109 (List._∷_ 101 List.[])))))))))))))) (Syntax.ttcons Syntax.tnil (Syntax.ttcons (Syntax.tcons (Syntax.tyInt Syntax.w16) Syntax.tnil) (Syntax.ttcons (Syntax.tcons (Syntax.tyInt Syntax.w16) Syntax.tnil) Syntax.ttnil)))) (Syntax.tcons (Syntax.tyInt Syntax.w64) (Syntax.tcons (Syntax.tyInt Syntax.w64) Syntax.tnil))))) (List._∷_ (8, Rows.any-gone (Syntax.tyRef Syntax.erased Syntax.mut (Syntax.tyInt Syntax.w64))) (List._∷_ (9, Mut.mslice (Referent.rtF (Referent.fInt Syntax.w64)) (Syntax.tyRef Syntax.erased Syntax.mut (Syntax.tyInt Syntax.w64)) 3) (List._∷_ (10, Rows.mref Lent.R (Syntax.tyRef Syntax.erased Syntax.mut Lent.refS) 4) List.[]))))))))))
 
         abbrev g5 : List.List Row.Entry
         g5 = List._∷_ (0, Rows.any-gone (Syntax.tyStruct (List._∷_ 103 (List._∷_ 97 (List._∷_ 116 (List._∷_ 101 (List._∷_ 119 (List._∷_ 97 (List._∷_ 121 (List._∷_ 58 (List._∷_ 58 (List._∷_ 71 (List._∷_ 97 (List._∷_ 116 (List._∷_ 101 (List._∷_ 119 (List._∷_ 97 (List._∷_ 121 (List._∷_ 65 (List._∷_ 110 (List._∷_ 115 (List._∷_ 119 (List._∷_ 101 (List._∷_ 114 List.[])))))))))))))))))))))) (Syntax.tcons (Syntax.tyInt Syntax.w64) (Syntax.tcons (Syntax.tyInt Syntax.w64) (Syntax.tcons (Syntax.tyInt Syntax.w64) (Syntax.tcons (Syntax.tyInt Syntax.w64) Syntax.tnil)))))) (List._∷_ (1, Rows.sslice (Referent.rtF (Referent.fInt Syntax.w8)) (Syntax.tyRef (Syntax.named 0) Syntax.imm (Syntax.tyInt Syntax.w8)) 0) (List._∷_ (2, Rows.sc-here (Row.sInt Syntax.w64)) (List._∷_ (3, Rows.sc-here Row.sBool) (List._∷_ (4, Relend.mslice-owed (Referent.rtF (Referent.fInt Syntax.w64)) (Syntax.tyRef (Syntax.named 1) Syntax.mut (Syntax.tyInt Syntax.w64)) 1 3 (Row.lease (κs .1 .0) (qs .1 .0))) (List._∷_ (5, Rows.mref-owed Lent.R (Syntax.tyRef (Syntax.named 2) Syntax.mut Lent.refS) 2 4 (Row.lease (κs .1 .1 .0) (qs .1 .1 .0))) (List._∷_ (6, Rows.sc-here Row.sBool) (List._∷_ (7, Rows.whole (Declared.row Answer.the-type)) (List._∷_ (8, Rows.any-gone (Syntax.tyRef Syntax.erased Syntax.mut (Syntax.tyInt Syntax.w64))) (List._∷_ (9, Mut.msleft (Referent.rtF (Referent.fInt Syntax.w64)) (Syntax.tyRef Syntax.erased Syntax.mut (Syntax.tyInt Syntax.w64))) (List._∷_ (10, Rows.mleft Lent.R (Syntax.tyRef Syntax.erased Syntax.mut Lent.refS)) List.[]))))))))))
@@ -425,7 +425,7 @@ module _ (claims· : Claims) where
           d3 = Typed.g-pre 𝓤 H A W 𝓣 E G18 G19 b5 Δ0 (Typed.pass T18 T19 s17) at2 (Scalar.g-room 𝓤 H A W E G18 2 (Syntax.tyInt Syntax.w64) (Scalar.room-sc 𝓤 H A W (Row.sInt Syntax.w64))) d2
 
           d4 : Typed.Typed 𝓤 H A 𝓣 E G17 b5 Δ0 at4
-          d4 = Typed.g-pre 𝓤 H A W 𝓣 E G17 G18 b5 Δ0 (Typed.pass T17 T18 s16) at3 (Scalar.g-room 𝓤 H A W E G17 7 (Syntax.tyStruct (List._∷_ 114 (List._∷_ 117 (List._∷_ 108 (List._∷_ 101 (List._∷_ 115 (List._∷_ 58 (List._∷_ 58 (List._∷_ 65 (List._∷_ 110 (List._∷_ 115 (List._∷_ 119 (List._∷_ 101 (List._∷_ 114 List.[]))))))))))))) (Syntax.tcons (Syntax.tyEnum (List._∷_ 114 (List._∷_ 117 (List._∷_ 108 (List._∷_ 101 (List._∷_ 115 (List._∷_ 58 (List._∷_ 58 (List._∷_ 79 (List._∷_ 117 (List._∷_ 116 (List._∷_ 99 (List._∷_ 111 (List._∷_ 109 (List._∷_ 101 List.[])))))))))))))) (Syntax.ttcons Syntax.tnil (Syntax.ttcons (Syntax.tcons (Syntax.tyInt Syntax.w64) Syntax.tnil) (Syntax.ttcons (Syntax.tcons (Syntax.tyInt Syntax.w64) Syntax.tnil) Syntax.ttnil)))) (Syntax.tcons (Syntax.tyInt Syntax.w64) (Syntax.tcons (Syntax.tyInt Syntax.w64) Syntax.tnil)))) (Local.room-whole 𝓤 H A W (Declared.row Answer.the-type) (Syntax.tyStruct (List._∷_ 114 (List._∷_ 117 (List._∷_ 108 (List._∷_ 101 (List._∷_ 115 (List._∷_ 58 (List._∷_ 58 (List._∷_ 65 (List._∷_ 110 (List._∷_ 115 (List._∷_ 119 (List._∷_ 101 (List._∷_ 114 List.[]))))))))))))) (Syntax.tcons (Syntax.tyEnum (List._∷_ 114 (List._∷_ 117 (List._∷_ 108 (List._∷_ 101 (List._∷_ 115 (List._∷_ 58 (List._∷_ 58 (List._∷_ 79 (List._∷_ 117 (List._∷_ 116 (List._∷_ 99 (List._∷_ 111 (List._∷_ 109 (List._∷_ 101 List.[])))))))))))))) (Syntax.ttcons Syntax.tnil (Syntax.ttcons (Syntax.tcons (Syntax.tyInt Syntax.w64) Syntax.tnil) (Syntax.ttcons (Syntax.tcons (Syntax.tyInt Syntax.w64) Syntax.tnil) Syntax.ttnil)))) (Syntax.tcons (Syntax.tyInt Syntax.w64) (Syntax.tcons (Syntax.tyInt Syntax.w64) Syntax.tnil)))) Path'.refl)) d3
+          d4 = Typed.g-pre 𝓤 H A W 𝓣 E G17 G18 b5 Δ0 (Typed.pass T17 T18 s16) at3 (Scalar.g-room 𝓤 H A W E G17 7 (Syntax.tyStruct (List._∷_ 114 (List._∷_ 117 (List._∷_ 108 (List._∷_ 101 (List._∷_ 115 (List._∷_ 58 (List._∷_ 58 (List._∷_ 65 (List._∷_ 110 (List._∷_ 115 (List._∷_ 119 (List._∷_ 101 (List._∷_ 114 List.[]))))))))))))) (Syntax.tcons (Syntax.tyEnum (List._∷_ 114 (List._∷_ 117 (List._∷_ 108 (List._∷_ 101 (List._∷_ 115 (List._∷_ 58 (List._∷_ 58 (List._∷_ 79 (List._∷_ 117 (List._∷_ 116 (List._∷_ 99 (List._∷_ 111 (List._∷_ 109 (List._∷_ 101 List.[])))))))))))))) (Syntax.ttcons Syntax.tnil (Syntax.ttcons (Syntax.tcons (Syntax.tyInt Syntax.w16) Syntax.tnil) (Syntax.ttcons (Syntax.tcons (Syntax.tyInt Syntax.w16) Syntax.tnil) Syntax.ttnil)))) (Syntax.tcons (Syntax.tyInt Syntax.w64) (Syntax.tcons (Syntax.tyInt Syntax.w64) Syntax.tnil)))) (Local.room-whole 𝓤 H A W (Declared.row Answer.the-type) (Syntax.tyStruct (List._∷_ 114 (List._∷_ 117 (List._∷_ 108 (List._∷_ 101 (List._∷_ 115 (List._∷_ 58 (List._∷_ 58 (List._∷_ 65 (List._∷_ 110 (List._∷_ 115 (List._∷_ 119 (List._∷_ 101 (List._∷_ 114 List.[]))))))))))))) (Syntax.tcons (Syntax.tyEnum (List._∷_ 114 (List._∷_ 117 (List._∷_ 108 (List._∷_ 101 (List._∷_ 115 (List._∷_ 58 (List._∷_ 58 (List._∷_ 79 (List._∷_ 117 (List._∷_ 116 (List._∷_ 99 (List._∷_ 111 (List._∷_ 109 (List._∷_ 101 List.[])))))))))))))) (Syntax.ttcons Syntax.tnil (Syntax.ttcons (Syntax.tcons (Syntax.tyInt Syntax.w16) Syntax.tnil) (Syntax.ttcons (Syntax.tcons (Syntax.tyInt Syntax.w16) Syntax.tnil) Syntax.ttnil)))) (Syntax.tcons (Syntax.tyInt Syntax.w64) (Syntax.tcons (Syntax.tyInt Syntax.w64) Syntax.tnil)))) Path'.refl)) d3
 
           d5 : Typed.Typed 𝓤 H A 𝓣 E G16 b6 Δ0 at5
           d5 = Typed.s-seq 𝓤 H A W 𝓣 E G16 G17 b4 b5 Δ0 (Typed.both s15) at4 (Plain.t-call-plain 𝓤 H A W 𝓣 0 ps·1 r·1 (claims· .2) (claims· .3) "gateway::exported" (known .1) E (λ pos β. β) G16 (record { pos = 7; st = List.[]; d = 0; at = λ x. x }, tt) 0 List.[] (Call.sub-id 𝓤 H A W (G16 .slots)) ((Yields.yields-copy 𝓤 H A W (λ ρ. Unit) (Declared.row Answer.the-type) Path'.refl (Copies.cStruct Answer.the-type Laws'.the-laws Laws'.the-copy .copy 𝓤 H A W) (Rows.whole (Declared.row Answer.the-type)) (λ x. x) (λ x. x) (λ ρ told. Local.mem-whole 𝓤 H A W (Declared.row Answer.the-type) ρ) λ ρ told. Local.whole-mem 𝓤 H A W (Declared.row Answer.the-type) ρ, Path'.refl), tt) (Reads.room-gone 𝓤 H A (Syntax.tyStruct (List._∷_ 103 (List._∷_ 97 (List._∷_ 116 (List._∷_ 101 (List._∷_ 119 (List._∷_ 97 (List._∷_ 121 (List._∷_ 58 (List._∷_ 58 (List._∷_ 71 (List._∷_ 97 (List._∷_ 116 (List._∷_ 101 (List._∷_ 119 (List._∷_ 97 (List._∷_ 121 (List._∷_ 65 (List._∷_ 110 (List._∷_ 115 (List._∷_ 119 (List._∷_ 101 (List._∷_ 114 List.[])))))))))))))))))))))) (Syntax.tcons (Syntax.tyInt Syntax.w64) (Syntax.tcons (Syntax.tyInt Syntax.w64) (Syntax.tcons (Syntax.tyInt Syntax.w64) (Syntax.tcons (Syntax.tyInt Syntax.w64) Syntax.tnil)))))) tt Path'.refl) d4
@@ -452,7 +452,7 @@ module _ (claims· : Claims) where
           d12 = Typed.g-pre 𝓤 H A W 𝓣 E G9 G10 b6 Δ0 (λ Ψ. Ψ) at11 (Lifetime.g-end 𝓤 H A W E G9 3 Path'.refl) d11
 
           d13 : Typed.Typed 𝓤 H A 𝓣 E G8 b7 Δ0 at13
-          d13 = Typed.s-seq 𝓤 H A W 𝓣 E G8 G9 b3 b6 Δ0 (Typed.both s7) at12 (Plain.t-call-plain 𝓤 H A W 𝓣 3 ps·0 r·0 (claims· .0) (claims· .1) "lent::read_position" (known .0) E (λ pos β. β) G8 (record { pos = 1; ty = Syntax.tyRef (Syntax.named 0) Syntax.imm (Syntax.tyInt Syntax.w8); ref = λ x. x }, (Num.vAt 2 λ x. x, (Bool.bAt 3 λ x. x, (record { pos = 9; ty = Syntax.tyRef Syntax.erased Syntax.mut (Syntax.tyInt Syntax.w64); ref = λ x. x }, (record { pos = 10; ty = Syntax.tyRef Syntax.erased Syntax.mut Lent.refS; ref = λ x. x }, (Bool.bAt 6 λ x. x, tt)))))) 7 (List._∷_ 0 (List._∷_ 3 (List._∷_ 4 List.[]))) (Call.sub-id 𝓤 H A W (G8 .slots)) (ShrSlice.spares-sslice 𝓤 H A W (Referent.rtF (Referent.fInt Syntax.w8)) (Syntax.tyRef (Syntax.named 0) Syntax.imm (Syntax.tyInt Syntax.w8)) 0, Shared.reads-sslice 𝓤 H A W (Referent.rtF (Referent.fInt Syntax.w8)) (Syntax.tyRef (Syntax.named 0) Syntax.imm (Syntax.tyInt Syntax.w8)) 0, Path'.refl, ((Scalar.reads-sc 𝓤 H A W (Row.sInt Syntax.w64), Path'.refl), ((Scalar.reads-sc 𝓤 H A W Row.sBool, Path'.refl), (Reads.as-is 𝓤 H A (Mut.mslice (Referent.rtF (Referent.fInt Syntax.w64)) (Syntax.tyRef Syntax.erased Syntax.mut (Syntax.tyInt Syntax.w64)) 3), Mut.reads-mslice 𝓤 H A W (Referent.rtF (Referent.fInt Syntax.w64)) (Syntax.tyRef Syntax.erased Syntax.mut (Syntax.tyInt Syntax.w64)) 3, Path'.refl, (Reads.as-is 𝓤 H A (Rows.mref Lent.R (Syntax.tyRef Syntax.erased Syntax.mut Lent.refS) 4), Reads.reads-mref 𝓤 H A W Lent.R (Syntax.tyRef Syntax.erased Syntax.mut Lent.refS) 4, Path'.refl, ((Scalar.reads-sc 𝓤 H A W Row.sBool, Path'.refl), tt)))))) (Reads.room-gone 𝓤 H A (Syntax.tyStruct (List._∷_ 114 (List._∷_ 117 (List._∷_ 108 (List._∷_ 101 (List._∷_ 115 (List._∷_ 58 (List._∷_ 58 (List._∷_ 65 (List._∷_ 110 (List._∷_ 115 (List._∷_ 119 (List._∷_ 101 (List._∷_ 114 List.[]))))))))))))) (Syntax.tcons (Syntax.tyEnum (List._∷_ 114 (List._∷_ 117 (List._∷_ 108 (List._∷_ 101 (List._∷_ 115 (List._∷_ 58 (List._∷_ 58 (List._∷_ 79 (List._∷_ 117 (List._∷_ 116 (List._∷_ 99 (List._∷_ 111 (List._∷_ 109 (List._∷_ 101 List.[])))))))))))))) (Syntax.ttcons Syntax.tnil (Syntax.ttcons (Syntax.tcons (Syntax.tyInt Syntax.w64) Syntax.tnil) (Syntax.ttcons (Syntax.tcons (Syntax.tyInt Syntax.w64) Syntax.tnil) Syntax.ttnil)))) (Syntax.tcons (Syntax.tyInt Syntax.w64) (Syntax.tcons (Syntax.tyInt Syntax.w64) Syntax.tnil))))) (tt, (tt, (tt, tt))) Path'.refl) d12
+          d13 = Typed.s-seq 𝓤 H A W 𝓣 E G8 G9 b3 b6 Δ0 (Typed.both s7) at12 (Plain.t-call-plain 𝓤 H A W 𝓣 3 ps·0 r·0 (claims· .0) (claims· .1) "lent::read_position" (known .0) E (λ pos β. β) G8 (record { pos = 1; ty = Syntax.tyRef (Syntax.named 0) Syntax.imm (Syntax.tyInt Syntax.w8); ref = λ x. x }, (Num.vAt 2 λ x. x, (Bool.bAt 3 λ x. x, (record { pos = 9; ty = Syntax.tyRef Syntax.erased Syntax.mut (Syntax.tyInt Syntax.w64); ref = λ x. x }, (record { pos = 10; ty = Syntax.tyRef Syntax.erased Syntax.mut Lent.refS; ref = λ x. x }, (Bool.bAt 6 λ x. x, tt)))))) 7 (List._∷_ 0 (List._∷_ 3 (List._∷_ 4 List.[]))) (Call.sub-id 𝓤 H A W (G8 .slots)) (ShrSlice.spares-sslice 𝓤 H A W (Referent.rtF (Referent.fInt Syntax.w8)) (Syntax.tyRef (Syntax.named 0) Syntax.imm (Syntax.tyInt Syntax.w8)) 0, Shared.reads-sslice 𝓤 H A W (Referent.rtF (Referent.fInt Syntax.w8)) (Syntax.tyRef (Syntax.named 0) Syntax.imm (Syntax.tyInt Syntax.w8)) 0, Path'.refl, ((Scalar.reads-sc 𝓤 H A W (Row.sInt Syntax.w64), Path'.refl), ((Scalar.reads-sc 𝓤 H A W Row.sBool, Path'.refl), (Reads.as-is 𝓤 H A (Mut.mslice (Referent.rtF (Referent.fInt Syntax.w64)) (Syntax.tyRef Syntax.erased Syntax.mut (Syntax.tyInt Syntax.w64)) 3), Mut.reads-mslice 𝓤 H A W (Referent.rtF (Referent.fInt Syntax.w64)) (Syntax.tyRef Syntax.erased Syntax.mut (Syntax.tyInt Syntax.w64)) 3, Path'.refl, (Reads.as-is 𝓤 H A (Rows.mref Lent.R (Syntax.tyRef Syntax.erased Syntax.mut Lent.refS) 4), Reads.reads-mref 𝓤 H A W Lent.R (Syntax.tyRef Syntax.erased Syntax.mut Lent.refS) 4, Path'.refl, ((Scalar.reads-sc 𝓤 H A W Row.sBool, Path'.refl), tt)))))) (Reads.room-gone 𝓤 H A (Syntax.tyStruct (List._∷_ 114 (List._∷_ 117 (List._∷_ 108 (List._∷_ 101 (List._∷_ 115 (List._∷_ 58 (List._∷_ 58 (List._∷_ 65 (List._∷_ 110 (List._∷_ 115 (List._∷_ 119 (List._∷_ 101 (List._∷_ 114 List.[]))))))))))))) (Syntax.tcons (Syntax.tyEnum (List._∷_ 114 (List._∷_ 117 (List._∷_ 108 (List._∷_ 101 (List._∷_ 115 (List._∷_ 58 (List._∷_ 58 (List._∷_ 79 (List._∷_ 117 (List._∷_ 116 (List._∷_ 99 (List._∷_ 111 (List._∷_ 109 (List._∷_ 101 List.[])))))))))))))) (Syntax.ttcons Syntax.tnil (Syntax.ttcons (Syntax.tcons (Syntax.tyInt Syntax.w16) Syntax.tnil) (Syntax.ttcons (Syntax.tcons (Syntax.tyInt Syntax.w16) Syntax.tnil) Syntax.ttnil)))) (Syntax.tcons (Syntax.tyInt Syntax.w64) (Syntax.tcons (Syntax.tyInt Syntax.w64) Syntax.tnil))))) (tt, (tt, (tt, tt))) Path'.refl) d12
 
           d14 : Typed.Typed 𝓤 H A 𝓣 E G7 b8 Δ0 at14
           d14 = Typed.s-seq 𝓤 H A W 𝓣 E G7 G8 b2 b7 Δ0 (Typed.give s6) at13 (Reborrow.t-mref-relend 𝓤 H A W E 𝓣 G7 5 10 2 4 Lent.R Lent.mirS (Syntax.tyRef (Syntax.named 2) Syntax.mut Lent.refS) (Syntax.tyRef Syntax.erased Syntax.mut Lent.refS) (Row.lease (κs .1 .1 .0) (qs .1 .1 .0)) (λ x. x) (Reads.as-is 𝓤 H A (Rows.mref Lent.R (Syntax.tyRef (Syntax.named 2) Syntax.mut Lent.refS) 2)) (Reads.room-gone 𝓤 H A (Syntax.tyRef Syntax.erased Syntax.mut Lent.refS)) Path'.refl tt Path'.refl Path'.refl λ b o. tt) d13

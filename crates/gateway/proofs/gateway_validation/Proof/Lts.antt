@@ -52,7 +52,7 @@ abbrev pub r : Kinds.RK 1
 r = Value.rVal record { ty = Declared.row GatewayAnswer.the-type; one = Path'.refl; val = Laws''.val GatewayAnswer.the-type Laws.the-laws; tells = Laws''.tells GatewayAnswer.the-type Laws.the-laws; still = Laws''.still GatewayAnswer.the-type Laws.the-copy Exit.yes; row = Rows.whole (Declared.row GatewayAnswer.the-type); rd = λ x. x; mk = λ x. x } λ M 𝓤 H A W. record { copies = Laws''.copy GatewayAnswer.the-type Laws.the-copy 𝓤 H A W; lawful = Laws''.lawful GatewayAnswer.the-type Laws.the-laws 𝓤 H A W; makes = Laws''.makes GatewayAnswer.the-type Laws.the-plain 𝓤 H A; in-mem = Local.mem-whole 𝓤 H A W (Declared.row GatewayAnswer.the-type); of-mem = Local.whole-mem 𝓤 H A W (Declared.row GatewayAnswer.the-type) }
 
 abbrev pub xs : List.List Syntax.Ty
-xs = List._∷_ (Syntax.tyStruct (List._∷_ 114 (List._∷_ 117 (List._∷_ 108 (List._∷_ 101 (List._∷_ 115 (List._∷_ 58 (List._∷_ 58 (List._∷_ 65 (List._∷_ 110 (List._∷_ 115 (List._∷_ 119 (List._∷_ 101 (List._∷_ 114 List.[]))))))))))))) (Syntax.tcons (Syntax.tyEnum (List._∷_ 114 (List._∷_ 117 (List._∷_ 108 (List._∷_ 101 (List._∷_ 115 (List._∷_ 58 (List._∷_ 58 (List._∷_ 79 (List._∷_ 117 (List._∷_ 116 (List._∷_ 99 (List._∷_ 111 (List._∷_ 109 (List._∷_ 101 List.[])))))))))))))) (Syntax.ttcons Syntax.tnil (Syntax.ttcons (Syntax.tcons (Syntax.tyInt Syntax.w64) Syntax.tnil) (Syntax.ttcons (Syntax.tcons (Syntax.tyInt Syntax.w64) Syntax.tnil) Syntax.ttnil)))) (Syntax.tcons (Syntax.tyInt Syntax.w64) (Syntax.tcons (Syntax.tyInt Syntax.w64) Syntax.tnil)))) (List._∷_ (Syntax.tyRef Syntax.erased Syntax.imm Lent.refS) (List._∷_ (Syntax.tyStruct (List._∷_ 38 (List._∷_ 91 (List._∷_ 93 List.[]))) (Syntax.tcons (Syntax.tyRef Syntax.erased Syntax.imm Lent.refS) (Syntax.tcons (Syntax.tyInt Syntax.w64) Syntax.tnil))) List.[]))
+xs = List._∷_ (Syntax.tyStruct (List._∷_ 114 (List._∷_ 117 (List._∷_ 108 (List._∷_ 101 (List._∷_ 115 (List._∷_ 58 (List._∷_ 58 (List._∷_ 65 (List._∷_ 110 (List._∷_ 115 (List._∷_ 119 (List._∷_ 101 (List._∷_ 114 List.[]))))))))))))) (Syntax.tcons (Syntax.tyEnum (List._∷_ 114 (List._∷_ 117 (List._∷_ 108 (List._∷_ 101 (List._∷_ 115 (List._∷_ 58 (List._∷_ 58 (List._∷_ 79 (List._∷_ 117 (List._∷_ 116 (List._∷_ 99 (List._∷_ 111 (List._∷_ 109 (List._∷_ 101 List.[])))))))))))))) (Syntax.ttcons Syntax.tnil (Syntax.ttcons (Syntax.tcons (Syntax.tyInt Syntax.w16) Syntax.tnil) (Syntax.ttcons (Syntax.tcons (Syntax.tyInt Syntax.w16) Syntax.tnil) Syntax.ttnil)))) (Syntax.tcons (Syntax.tyInt Syntax.w64) (Syntax.tcons (Syntax.tyInt Syntax.w64) Syntax.tnil)))) (List._∷_ (Syntax.tyRef Syntax.erased Syntax.imm Lent.refS) (List._∷_ (Syntax.tyStruct (List._∷_ 38 (List._∷_ 91 (List._∷_ 93 List.[]))) (Syntax.tcons (Syntax.tyRef Syntax.erased Syntax.imm Lent.refS) (Syntax.tcons (Syntax.tyInt Syntax.w64) Syntax.tnil))) List.[]))
 
 abbrev pub m : Nat.ℕ
 m = 0
@@ -106,16 +106,16 @@ abbrev pub Claims : Type 1
 Claims = Kinds.In 1 ps·0 × Kinds.Out 1 ps·0 r·0 × Kinds.In 0 ps·1 × Kinds.Out 0 ps·1 r·1
 
 abbrev pub t0 : List.List Row.Entry
-t0 = List._∷_ (0, Rows.any-gone (Syntax.tyStruct (List._∷_ 103 (List._∷_ 97 (List._∷_ 116 (List._∷_ 101 (List._∷_ 119 (List._∷_ 97 (List._∷_ 121 (List._∷_ 58 (List._∷_ 58 (List._∷_ 71 (List._∷_ 97 (List._∷_ 116 (List._∷_ 101 (List._∷_ 119 (List._∷_ 97 (List._∷_ 121 (List._∷_ 65 (List._∷_ 110 (List._∷_ 115 (List._∷_ 119 (List._∷_ 101 (List._∷_ 114 List.[])))))))))))))))))))))) (Syntax.tcons (Syntax.tyInt Syntax.w64) (Syntax.tcons (Syntax.tyInt Syntax.w64) (Syntax.tcons (Syntax.tyInt Syntax.w64) (Syntax.tcons (Syntax.tyInt Syntax.w64) Syntax.tnil)))))) (List._∷_ (1, Rows.sslice Lent.R (Syntax.tyRef (Syntax.named 0) Syntax.imm Lent.refS) 0) (List._∷_ (2, Rows.sc-here (Row.sInt Syntax.w64)) (List._∷_ (3, Rows.any-gone (Syntax.tyStruct (List._∷_ 114 (List._∷_ 117 (List._∷_ 108 (List._∷_ 101 (List._∷_ 115 (List._∷_ 58 (List._∷_ 58 (List._∷_ 65 (List._∷_ 110 (List._∷_ 115 (List._∷_ 119 (List._∷_ 101 (List._∷_ 114 List.[]))))))))))))) (Syntax.tcons (Syntax.tyEnum (List._∷_ 114 (List._∷_ 117 (List._∷_ 108 (List._∷_ 101 (List._∷_ 115 (List._∷_ 58 (List._∷_ 58 (List._∷_ 79 (List._∷_ 117 (List._∷_ 116 (List._∷_ 99 (List._∷_ 111 (List._∷_ 109 (List._∷_ 101 List.[])))))))))))))) (Syntax.ttcons Syntax.tnil (Syntax.ttcons (Syntax.tcons (Syntax.tyInt Syntax.w64) Syntax.tnil) (Syntax.ttcons (Syntax.tcons (Syntax.tyInt Syntax.w64) Syntax.tnil) Syntax.ttnil)))) (Syntax.tcons (Syntax.tyInt Syntax.w64) (Syntax.tcons (Syntax.tyInt Syntax.w64) Syntax.tnil))))) (List._∷_ (4, Rows.any-gone (Syntax.tyRef Syntax.erased Syntax.imm Lent.refS)) (List._∷_ (5, Rows.any-gone (Syntax.tyStruct (List._∷_ 38 (List._∷_ 91 (List._∷_ 93 List.[]))) (Syntax.tcons (Syntax.tyRef Syntax.erased Syntax.imm Lent.refS) (Syntax.tcons (Syntax.tyInt Syntax.w64) Syntax.tnil)))) List.[])))))
+t0 = List._∷_ (0, Rows.any-gone (Syntax.tyStruct (List._∷_ 103 (List._∷_ 97 (List._∷_ 116 (List._∷_ 101 (List._∷_ 119 (List._∷_ 97 (List._∷_ 121 (List._∷_ 58 (List._∷_ 58 (List._∷_ 71 (List._∷_ 97 (List._∷_ 116 (List._∷_ 101 (List._∷_ 119 (List._∷_ 97 (List._∷_ 121 (List._∷_ 65 (List._∷_ 110 (List._∷_ 115 (List._∷_ 119 (List._∷_ 101 (List._∷_ 114 List.[])))))))))))))))))))))) (Syntax.tcons (Syntax.tyInt Syntax.w64) (Syntax.tcons (Syntax.tyInt Syntax.w64) (Syntax.tcons (Syntax.tyInt Syntax.w64) (Syntax.tcons (Syntax.tyInt Syntax.w64) Syntax.tnil)))))) (List._∷_ (1, Rows.sslice Lent.R (Syntax.tyRef (Syntax.named 0) Syntax.imm Lent.refS) 0) (List._∷_ (2, Rows.sc-here (Row.sInt Syntax.w64)) (List._∷_ (3, Rows.any-gone (Syntax.tyStruct (List._∷_ 114 (List._∷_ 117 (List._∷_ 108 (List._∷_ 101 (List._∷_ 115 (List._∷_ 58 (List._∷_ 58 (List._∷_ 65 (List._∷_ 110 (List._∷_ 115 (List._∷_ 119 (List._∷_ 101 (List._∷_ 114 List.[]))))))))))))) (Syntax.tcons (Syntax.tyEnum (List._∷_ 114 (List._∷_ 117 (List._∷_ 108 (List._∷_ 101 (List._∷_ 115 (List._∷_ 58 (List._∷_ 58 (List._∷_ 79 (List._∷_ 117 (List._∷_ 116 (List._∷_ 99 (List._∷_ 111 (List._∷_ 109 (List._∷_ 101 List.[])))))))))))))) (Syntax.ttcons Syntax.tnil (Syntax.ttcons (Syntax.tcons (Syntax.tyInt Syntax.w16) Syntax.tnil) (Syntax.ttcons (Syntax.tcons (Syntax.tyInt Syntax.w16) Syntax.tnil) Syntax.ttnil)))) (Syntax.tcons (Syntax.tyInt Syntax.w64) (Syntax.tcons (Syntax.tyInt Syntax.w64) Syntax.tnil))))) (List._∷_ (4, Rows.any-gone (Syntax.tyRef Syntax.erased Syntax.imm Lent.refS)) (List._∷_ (5, Rows.any-gone (Syntax.tyStruct (List._∷_ 38 (List._∷_ 91 (List._∷_ 93 List.[]))) (Syntax.tcons (Syntax.tyRef Syntax.erased Syntax.imm Lent.refS) (Syntax.tcons (Syntax.tyInt Syntax.w64) Syntax.tnil)))) List.[])))))
 
 abbrev pub t1 : List.List Row.Entry
-t1 = List._∷_ (0, Rows.whole (Declared.row GatewayAnswer.the-type)) (List._∷_ (1, Rows.sslice Lent.R (Syntax.tyRef (Syntax.named 0) Syntax.imm Lent.refS) 0) (List._∷_ (2, Rows.any-gone (Syntax.tyInt Syntax.w64)) (List._∷_ (3, Rows.any-gone (Syntax.tyStruct (List._∷_ 114 (List._∷_ 117 (List._∷_ 108 (List._∷_ 101 (List._∷_ 115 (List._∷_ 58 (List._∷_ 58 (List._∷_ 65 (List._∷_ 110 (List._∷_ 115 (List._∷_ 119 (List._∷_ 101 (List._∷_ 114 List.[]))))))))))))) (Syntax.tcons (Syntax.tyEnum (List._∷_ 114 (List._∷_ 117 (List._∷_ 108 (List._∷_ 101 (List._∷_ 115 (List._∷_ 58 (List._∷_ 58 (List._∷_ 79 (List._∷_ 117 (List._∷_ 116 (List._∷_ 99 (List._∷_ 111 (List._∷_ 109 (List._∷_ 101 List.[])))))))))))))) (Syntax.ttcons Syntax.tnil (Syntax.ttcons (Syntax.tcons (Syntax.tyInt Syntax.w64) Syntax.tnil) (Syntax.ttcons (Syntax.tcons (Syntax.tyInt Syntax.w64) Syntax.tnil) Syntax.ttnil)))) (Syntax.tcons (Syntax.tyInt Syntax.w64) (Syntax.tcons (Syntax.tyInt Syntax.w64) Syntax.tnil))))) (List._∷_ (4, Rows.any-gone (Syntax.tyRef Syntax.erased Syntax.imm Lent.refS)) (List._∷_ (5, Rows.any-gone (Syntax.tyStruct (List._∷_ 38 (List._∷_ 91 (List._∷_ 93 List.[]))) (Syntax.tcons (Syntax.tyRef Syntax.erased Syntax.imm Lent.refS) (Syntax.tcons (Syntax.tyInt Syntax.w64) Syntax.tnil)))) List.[])))))
+t1 = List._∷_ (0, Rows.whole (Declared.row GatewayAnswer.the-type)) (List._∷_ (1, Rows.sslice Lent.R (Syntax.tyRef (Syntax.named 0) Syntax.imm Lent.refS) 0) (List._∷_ (2, Rows.any-gone (Syntax.tyInt Syntax.w64)) (List._∷_ (3, Rows.any-gone (Syntax.tyStruct (List._∷_ 114 (List._∷_ 117 (List._∷_ 108 (List._∷_ 101 (List._∷_ 115 (List._∷_ 58 (List._∷_ 58 (List._∷_ 65 (List._∷_ 110 (List._∷_ 115 (List._∷_ 119 (List._∷_ 101 (List._∷_ 114 List.[]))))))))))))) (Syntax.tcons (Syntax.tyEnum (List._∷_ 114 (List._∷_ 117 (List._∷_ 108 (List._∷_ 101 (List._∷_ 115 (List._∷_ 58 (List._∷_ 58 (List._∷_ 79 (List._∷_ 117 (List._∷_ 116 (List._∷_ 99 (List._∷_ 111 (List._∷_ 109 (List._∷_ 101 List.[])))))))))))))) (Syntax.ttcons Syntax.tnil (Syntax.ttcons (Syntax.tcons (Syntax.tyInt Syntax.w16) Syntax.tnil) (Syntax.ttcons (Syntax.tcons (Syntax.tyInt Syntax.w16) Syntax.tnil) Syntax.ttnil)))) (Syntax.tcons (Syntax.tyInt Syntax.w64) (Syntax.tcons (Syntax.tyInt Syntax.w64) Syntax.tnil))))) (List._∷_ (4, Rows.any-gone (Syntax.tyRef Syntax.erased Syntax.imm Lent.refS)) (List._∷_ (5, Rows.any-gone (Syntax.tyStruct (List._∷_ 38 (List._∷_ 91 (List._∷_ 93 List.[]))) (Syntax.tcons (Syntax.tyRef Syntax.erased Syntax.imm Lent.refS) (Syntax.tcons (Syntax.tyInt Syntax.w64) Syntax.tnil)))) List.[])))))
 
 abbrev pub t2 : List.List Row.Entry
-t2 = List._∷_ (0, Rows.any-gone (Syntax.tyStruct (List._∷_ 103 (List._∷_ 97 (List._∷_ 116 (List._∷_ 101 (List._∷_ 119 (List._∷_ 97 (List._∷_ 121 (List._∷_ 58 (List._∷_ 58 (List._∷_ 71 (List._∷_ 97 (List._∷_ 116 (List._∷_ 101 (List._∷_ 119 (List._∷_ 97 (List._∷_ 121 (List._∷_ 65 (List._∷_ 110 (List._∷_ 115 (List._∷_ 119 (List._∷_ 101 (List._∷_ 114 List.[])))))))))))))))))))))) (Syntax.tcons (Syntax.tyInt Syntax.w64) (Syntax.tcons (Syntax.tyInt Syntax.w64) (Syntax.tcons (Syntax.tyInt Syntax.w64) (Syntax.tcons (Syntax.tyInt Syntax.w64) Syntax.tnil)))))) (List._∷_ (1, Rows.sslice Lent.R (Syntax.tyRef (Syntax.named 0) Syntax.imm Lent.refS) 0) (List._∷_ (2, Rows.sc-here (Row.sInt Syntax.w64)) (List._∷_ (3, Rows.any-gone (Syntax.tyStruct (List._∷_ 114 (List._∷_ 117 (List._∷_ 108 (List._∷_ 101 (List._∷_ 115 (List._∷_ 58 (List._∷_ 58 (List._∷_ 65 (List._∷_ 110 (List._∷_ 115 (List._∷_ 119 (List._∷_ 101 (List._∷_ 114 List.[]))))))))))))) (Syntax.tcons (Syntax.tyEnum (List._∷_ 114 (List._∷_ 117 (List._∷_ 108 (List._∷_ 101 (List._∷_ 115 (List._∷_ 58 (List._∷_ 58 (List._∷_ 79 (List._∷_ 117 (List._∷_ 116 (List._∷_ 99 (List._∷_ 111 (List._∷_ 109 (List._∷_ 101 List.[])))))))))))))) (Syntax.ttcons Syntax.tnil (Syntax.ttcons (Syntax.tcons (Syntax.tyInt Syntax.w64) Syntax.tnil) (Syntax.ttcons (Syntax.tcons (Syntax.tyInt Syntax.w64) Syntax.tnil) Syntax.ttnil)))) (Syntax.tcons (Syntax.tyInt Syntax.w64) (Syntax.tcons (Syntax.tyInt Syntax.w64) Syntax.tnil))))) (List._∷_ (4, Relend.ssptr Lent.R (Syntax.tyRef Syntax.erased Syntax.imm Lent.refS) 0) (List._∷_ (5, Rows.any-gone (Syntax.tyStruct (List._∷_ 38 (List._∷_ 91 (List._∷_ 93 List.[]))) (Syntax.tcons (Syntax.tyRef Syntax.erased Syntax.imm Lent.refS) (Syntax.tcons (Syntax.tyInt Syntax.w64) Syntax.tnil)))) List.[])))))
+t2 = List._∷_ (0, Rows.any-gone (Syntax.tyStruct (List._∷_ 103 (List._∷_ 97 (List._∷_ 116 (List._∷_ 101 (List._∷_ 119 (List._∷_ 97 (List._∷_ 121 (List._∷_ 58 (List._∷_ 58 (List._∷_ 71 (List._∷_ 97 (List._∷_ 116 (List._∷_ 101 (List._∷_ 119 (List._∷_ 97 (List._∷_ 121 (List._∷_ 65 (List._∷_ 110 (List._∷_ 115 (List._∷_ 119 (List._∷_ 101 (List._∷_ 114 List.[])))))))))))))))))))))) (Syntax.tcons (Syntax.tyInt Syntax.w64) (Syntax.tcons (Syntax.tyInt Syntax.w64) (Syntax.tcons (Syntax.tyInt Syntax.w64) (Syntax.tcons (Syntax.tyInt Syntax.w64) Syntax.tnil)))))) (List._∷_ (1, Rows.sslice Lent.R (Syntax.tyRef (Syntax.named 0) Syntax.imm Lent.refS) 0) (List._∷_ (2, Rows.sc-here (Row.sInt Syntax.w64)) (List._∷_ (3, Rows.any-gone (Syntax.tyStruct (List._∷_ 114 (List._∷_ 117 (List._∷_ 108 (List._∷_ 101 (List._∷_ 115 (List._∷_ 58 (List._∷_ 58 (List._∷_ 65 (List._∷_ 110 (List._∷_ 115 (List._∷_ 119 (List._∷_ 101 (List._∷_ 114 List.[]))))))))))))) (Syntax.tcons (Syntax.tyEnum (List._∷_ 114 (List._∷_ 117 (List._∷_ 108 (List._∷_ 101 (List._∷_ 115 (List._∷_ 58 (List._∷_ 58 (List._∷_ 79 (List._∷_ 117 (List._∷_ 116 (List._∷_ 99 (List._∷_ 111 (List._∷_ 109 (List._∷_ 101 List.[])))))))))))))) (Syntax.ttcons Syntax.tnil (Syntax.ttcons (Syntax.tcons (Syntax.tyInt Syntax.w16) Syntax.tnil) (Syntax.ttcons (Syntax.tcons (Syntax.tyInt Syntax.w16) Syntax.tnil) Syntax.ttnil)))) (Syntax.tcons (Syntax.tyInt Syntax.w64) (Syntax.tcons (Syntax.tyInt Syntax.w64) Syntax.tnil))))) (List._∷_ (4, Relend.ssptr Lent.R (Syntax.tyRef Syntax.erased Syntax.imm Lent.refS) 0) (List._∷_ (5, Rows.any-gone (Syntax.tyStruct (List._∷_ 38 (List._∷_ 91 (List._∷_ 93 List.[]))) (Syntax.tcons (Syntax.tyRef Syntax.erased Syntax.imm Lent.refS) (Syntax.tcons (Syntax.tyInt Syntax.w64) Syntax.tnil)))) List.[])))))
 
 abbrev pub t3 : List.List Row.Entry
-t3 = List._∷_ (0, Rows.any-gone (Syntax.tyStruct (List._∷_ 103 (List._∷_ 97 (List._∷_ 116 (List._∷_ 101 (List._∷_ 119 (List._∷_ 97 (List._∷_ 121 (List._∷_ 58 (List._∷_ 58 (List._∷_ 71 (List._∷_ 97 (List._∷_ 116 (List._∷_ 101 (List._∷_ 119 (List._∷_ 97 (List._∷_ 121 (List._∷_ 65 (List._∷_ 110 (List._∷_ 115 (List._∷_ 119 (List._∷_ 101 (List._∷_ 114 List.[])))))))))))))))))))))) (Syntax.tcons (Syntax.tyInt Syntax.w64) (Syntax.tcons (Syntax.tyInt Syntax.w64) (Syntax.tcons (Syntax.tyInt Syntax.w64) (Syntax.tcons (Syntax.tyInt Syntax.w64) Syntax.tnil)))))) (List._∷_ (1, Rows.sslice Lent.R (Syntax.tyRef (Syntax.named 0) Syntax.imm Lent.refS) 0) (List._∷_ (2, Rows.sc-here (Row.sInt Syntax.w64)) (List._∷_ (3, Rows.any-gone (Syntax.tyStruct (List._∷_ 114 (List._∷_ 117 (List._∷_ 108 (List._∷_ 101 (List._∷_ 115 (List._∷_ 58 (List._∷_ 58 (List._∷_ 65 (List._∷_ 110 (List._∷_ 115 (List._∷_ 119 (List._∷_ 101 (List._∷_ 114 List.[]))))))))))))) (Syntax.tcons (Syntax.tyEnum (List._∷_ 114 (List._∷_ 117 (List._∷_ 108 (List._∷_ 101 (List._∷_ 115 (List._∷_ 58 (List._∷_ 58 (List._∷_ 79 (List._∷_ 117 (List._∷_ 116 (List._∷_ 99 (List._∷_ 111 (List._∷_ 109 (List._∷_ 101 List.[])))))))))))))) (Syntax.ttcons Syntax.tnil (Syntax.ttcons (Syntax.tcons (Syntax.tyInt Syntax.w64) Syntax.tnil) (Syntax.ttcons (Syntax.tcons (Syntax.tyInt Syntax.w64) Syntax.tnil) Syntax.ttnil)))) (Syntax.tcons (Syntax.tyInt Syntax.w64) (Syntax.tcons (Syntax.tyInt Syntax.w64) Syntax.tnil))))) (List._∷_ (4, Rows.any-gone (Syntax.tyRef Syntax.erased Syntax.imm Lent.refS)) (List._∷_ (5, Rows.sslice Lent.R (Syntax.tyRef Syntax.erased Syntax.imm Lent.refS) 0) List.[])))))
+t3 = List._∷_ (0, Rows.any-gone (Syntax.tyStruct (List._∷_ 103 (List._∷_ 97 (List._∷_ 116 (List._∷_ 101 (List._∷_ 119 (List._∷_ 97 (List._∷_ 121 (List._∷_ 58 (List._∷_ 58 (List._∷_ 71 (List._∷_ 97 (List._∷_ 116 (List._∷_ 101 (List._∷_ 119 (List._∷_ 97 (List._∷_ 121 (List._∷_ 65 (List._∷_ 110 (List._∷_ 115 (List._∷_ 119 (List._∷_ 101 (List._∷_ 114 List.[])))))))))))))))))))))) (Syntax.tcons (Syntax.tyInt Syntax.w64) (Syntax.tcons (Syntax.tyInt Syntax.w64) (Syntax.tcons (Syntax.tyInt Syntax.w64) (Syntax.tcons (Syntax.tyInt Syntax.w64) Syntax.tnil)))))) (List._∷_ (1, Rows.sslice Lent.R (Syntax.tyRef (Syntax.named 0) Syntax.imm Lent.refS) 0) (List._∷_ (2, Rows.sc-here (Row.sInt Syntax.w64)) (List._∷_ (3, Rows.any-gone (Syntax.tyStruct (List._∷_ 114 (List._∷_ 117 (List._∷_ 108 (List._∷_ 101 (List._∷_ 115 (List._∷_ 58 (List._∷_ 58 (List._∷_ 65 (List._∷_ 110 (List._∷_ 115 (List._∷_ 119 (List._∷_ 101 (List._∷_ 114 List.[]))))))))))))) (Syntax.tcons (Syntax.tyEnum (List._∷_ 114 (List._∷_ 117 (List._∷_ 108 (List._∷_ 101 (List._∷_ 115 (List._∷_ 58 (List._∷_ 58 (List._∷_ 79 (List._∷_ 117 (List._∷_ 116 (List._∷_ 99 (List._∷_ 111 (List._∷_ 109 (List._∷_ 101 List.[])))))))))))))) (Syntax.ttcons Syntax.tnil (Syntax.ttcons (Syntax.tcons (Syntax.tyInt Syntax.w16) Syntax.tnil) (Syntax.ttcons (Syntax.tcons (Syntax.tyInt Syntax.w16) Syntax.tnil) Syntax.ttnil)))) (Syntax.tcons (Syntax.tyInt Syntax.w64) (Syntax.tcons (Syntax.tyInt Syntax.w64) Syntax.tnil))))) (List._∷_ (4, Rows.any-gone (Syntax.tyRef Syntax.erased Syntax.imm Lent.refS)) (List._∷_ (5, Rows.sslice Lent.R (Syntax.tyRef Syntax.erased Syntax.imm Lent.refS) 0) List.[])))))
 
 abbrev pub t4 : List.List Row.Entry
 t4 = List._∷_ (0, Rows.any-gone (Syntax.tyStruct (List._∷_ 103 (List._∷_ 97 (List._∷_ 116 (List._∷_ 101 (List._∷_ 119 (List._∷_ 97 (List._∷_ 121 (List._∷_ 58 (List._∷_ 58 (List._∷_ 71 (List._∷_ 97 (List._∷_ 116 (List._∷_ 101 (List._∷_ 119 (List._∷_ 97 (List._∷_ 121 (List._∷_ 65 (List._∷_ 110 (List._∷_ 115 (List._∷_ 119 (List._∷_ 101 (List._∷_ 114 List.[])))))))))))))))))))))) (Syntax.tcons (Syntax.tyInt Syntax.w64) (Syntax.tcons (Syntax.tyInt Syntax.w64) (Syntax.tcons (Syntax.tyInt Syntax.w64) (Syntax.tcons (Syntax.tyInt Syntax.w64) Syntax.tnil)))))) (List._∷_ (1, Rows.sslice Lent.R (Syntax.tyRef (Syntax.named 0) Syntax.imm Lent.refS) 0) (List._∷_ (2, Rows.sc-here (Row.sInt Syntax.w64)) (List._∷_ (3, Rows.whole (Declared.row Answer.the-type)) (List._∷_ (4, Rows.any-gone (Syntax.tyRef Syntax.erased Syntax.imm Lent.refS)) (List._∷_ (5, Rows.sslice Lent.R (Syntax.tyRef Syntax.erased Syntax.imm Lent.refS) 0) List.[])))))
@@ -127,7 +127,7 @@ abbrev pub t6 : List.List Row.Entry
 t6 = List._∷_ (0, Rows.whole (Declared.row GatewayAnswer.the-type)) (List._∷_ (1, Rows.sslice Lent.R (Syntax.tyRef (Syntax.named 0) Syntax.imm Lent.refS) 0) (List._∷_ (2, Rows.sc-here (Row.sInt Syntax.w64)) (List._∷_ (3, Rows.whole (Declared.row Answer.the-type)) (List._∷_ (4, Rows.any-gone (Syntax.tyRef Syntax.erased Syntax.imm Lent.refS)) (List._∷_ (5, Rows.any-gone (Syntax.tyStruct (List._∷_ 38 (List._∷_ 91 (List._∷_ 93 List.[]))) (Syntax.tcons (Syntax.tyRef Syntax.erased Syntax.imm Lent.refS) (Syntax.tcons (Syntax.tyInt Syntax.w64) Syntax.tnil)))) List.[])))))
 
 abbrev pub t7 : List.List Row.Entry
-t7 = List._∷_ (0, Rows.whole (Declared.row GatewayAnswer.the-type)) (List._∷_ (1, Rows.sslice Lent.R (Syntax.tyRef (Syntax.named 0) Syntax.imm Lent.refS) 0) (List._∷_ (2, Rows.sc-here (Row.sInt Syntax.w64)) (List._∷_ (3, Rows.any-gone (Syntax.tyStruct (List._∷_ 114 (List._∷_ 117 (List._∷_ 108 (List._∷_ 101 (List._∷_ 115 (List._∷_ 58 (List._∷_ 58 (List._∷_ 65 (List._∷_ 110 (List._∷_ 115 (List._∷_ 119 (List._∷_ 101 (List._∷_ 114 List.[]))))))))))))) (Syntax.tcons (Syntax.tyEnum (List._∷_ 114 (List._∷_ 117 (List._∷_ 108 (List._∷_ 101 (List._∷_ 115 (List._∷_ 58 (List._∷_ 58 (List._∷_ 79 (List._∷_ 117 (List._∷_ 116 (List._∷_ 99 (List._∷_ 111 (List._∷_ 109 (List._∷_ 101 List.[])))))))))))))) (Syntax.ttcons Syntax.tnil (Syntax.ttcons (Syntax.tcons (Syntax.tyInt Syntax.w64) Syntax.tnil) (Syntax.ttcons (Syntax.tcons (Syntax.tyInt Syntax.w64) Syntax.tnil) Syntax.ttnil)))) (Syntax.tcons (Syntax.tyInt Syntax.w64) (Syntax.tcons (Syntax.tyInt Syntax.w64) Syntax.tnil))))) (List._∷_ (4, Rows.any-gone (Syntax.tyRef Syntax.erased Syntax.imm Lent.refS)) (List._∷_ (5, Rows.any-gone (Syntax.tyStruct (List._∷_ 38 (List._∷_ 91 (List._∷_ 93 List.[]))) (Syntax.tcons (Syntax.tyRef Syntax.erased Syntax.imm Lent.refS) (Syntax.tcons (Syntax.tyInt Syntax.w64) Syntax.tnil)))) List.[])))))
+t7 = List._∷_ (0, Rows.whole (Declared.row GatewayAnswer.the-type)) (List._∷_ (1, Rows.sslice Lent.R (Syntax.tyRef (Syntax.named 0) Syntax.imm Lent.refS) 0) (List._∷_ (2, Rows.sc-here (Row.sInt Syntax.w64)) (List._∷_ (3, Rows.any-gone (Syntax.tyStruct (List._∷_ 114 (List._∷_ 117 (List._∷_ 108 (List._∷_ 101 (List._∷_ 115 (List._∷_ 58 (List._∷_ 58 (List._∷_ 65 (List._∷_ 110 (List._∷_ 115 (List._∷_ 119 (List._∷_ 101 (List._∷_ 114 List.[]))))))))))))) (Syntax.tcons (Syntax.tyEnum (List._∷_ 114 (List._∷_ 117 (List._∷_ 108 (List._∷_ 101 (List._∷_ 115 (List._∷_ 58 (List._∷_ 58 (List._∷_ 79 (List._∷_ 117 (List._∷_ 116 (List._∷_ 99 (List._∷_ 111 (List._∷_ 109 (List._∷_ 101 List.[])))))))))))))) (Syntax.ttcons Syntax.tnil (Syntax.ttcons (Syntax.tcons (Syntax.tyInt Syntax.w16) Syntax.tnil) (Syntax.ttcons (Syntax.tcons (Syntax.tyInt Syntax.w16) Syntax.tnil) Syntax.ttnil)))) (Syntax.tcons (Syntax.tyInt Syntax.w64) (Syntax.tcons (Syntax.tyInt Syntax.w64) Syntax.tnil))))) (List._∷_ (4, Rows.any-gone (Syntax.tyRef Syntax.erased Syntax.imm Lent.refS)) (List._∷_ (5, Rows.any-gone (Syntax.tyStruct (List._∷_ 38 (List._∷_ 91 (List._∷_ 93 List.[]))) (Syntax.tcons (Syntax.tyRef Syntax.erased Syntax.imm Lent.refS) (Syntax.tcons (Syntax.tyInt Syntax.w64) Syntax.tnil)))) List.[])))))
 
 abbrev pub T0 : Row.Cx
 T0 = record { locals = t0; slots = List.[] }
@@ -167,7 +167,7 @@ module _ (claims· : Claims) where
   s1 = Relend.k-sl-aggregate Lent.R (Relend.asShr Lent.R) T2 4 5 0 (Syntax.tyRef Syntax.erased Syntax.imm Lent.refS) (Syntax.tyRef Syntax.erased Syntax.imm Lent.refS) (λ x. x) (Scalar.oFld 1 (List._∷_ (Syntax.field 1) List.[]) (Syntax.tyInt Syntax.w64) 8 Shared.lenV)
 
   abbrev s2 : Typed.Both T3 T4
-  s2 = Call.callB ps·0 r·0 (claims· .0) (claims· .1) T3 (record { pos = 5; ty = Syntax.tyRef Syntax.erased Syntax.imm Lent.refS; ref = λ x. x }, (Num.vAt 2 λ x. x, tt)) 3 (List._∷_ 0 List.[]) (Syntax.tyStruct (List._∷_ 114 (List._∷_ 117 (List._∷_ 108 (List._∷_ 101 (List._∷_ 115 (List._∷_ 58 (List._∷_ 58 (List._∷_ 65 (List._∷_ 110 (List._∷_ 115 (List._∷_ 119 (List._∷_ 101 (List._∷_ 114 List.[]))))))))))))) (Syntax.tcons (Syntax.tyEnum (List._∷_ 114 (List._∷_ 117 (List._∷_ 108 (List._∷_ 101 (List._∷_ 115 (List._∷_ 58 (List._∷_ 58 (List._∷_ 79 (List._∷_ 117 (List._∷_ 116 (List._∷_ 99 (List._∷_ 111 (List._∷_ 109 (List._∷_ 101 List.[])))))))))))))) (Syntax.ttcons Syntax.tnil (Syntax.ttcons (Syntax.tcons (Syntax.tyInt Syntax.w64) Syntax.tnil) (Syntax.ttcons (Syntax.tcons (Syntax.tyInt Syntax.w64) Syntax.tnil) Syntax.ttnil)))) (Syntax.tcons (Syntax.tyInt Syntax.w64) (Syntax.tcons (Syntax.tyInt Syntax.w64) Syntax.tnil))))
+  s2 = Call.callB ps·0 r·0 (claims· .0) (claims· .1) T3 (record { pos = 5; ty = Syntax.tyRef Syntax.erased Syntax.imm Lent.refS; ref = λ x. x }, (Num.vAt 2 λ x. x, tt)) 3 (List._∷_ 0 List.[]) (Syntax.tyStruct (List._∷_ 114 (List._∷_ 117 (List._∷_ 108 (List._∷_ 101 (List._∷_ 115 (List._∷_ 58 (List._∷_ 58 (List._∷_ 65 (List._∷_ 110 (List._∷_ 115 (List._∷_ 119 (List._∷_ 101 (List._∷_ 114 List.[]))))))))))))) (Syntax.tcons (Syntax.tyEnum (List._∷_ 114 (List._∷_ 117 (List._∷_ 108 (List._∷_ 101 (List._∷_ 115 (List._∷_ 58 (List._∷_ 58 (List._∷_ 79 (List._∷_ 117 (List._∷_ 116 (List._∷_ 99 (List._∷_ 111 (List._∷_ 109 (List._∷_ 101 List.[])))))))))))))) (Syntax.ttcons Syntax.tnil (Syntax.ttcons (Syntax.tcons (Syntax.tyInt Syntax.w16) Syntax.tnil) (Syntax.ttcons (Syntax.tcons (Syntax.tyInt Syntax.w16) Syntax.tnil) Syntax.ttnil)))) (Syntax.tcons (Syntax.tyInt Syntax.w64) (Syntax.tcons (Syntax.tyInt Syntax.w64) Syntax.tnil))))
 
   abbrev s3 : Typed.Mo T4 → Typed.Mo T5
   s3 = Scalar.n-room T4 5 (Syntax.tyStruct (List._∷_ 38 (List._∷_ 91 (List._∷_ 93 List.[]))) (Syntax.tcons (Syntax.tyRef Syntax.erased Syntax.imm Lent.refS) (Syntax.tcons (Syntax.tyInt Syntax.w64) Syntax.tnil)))
@@ -176,7 +176,7 @@ module _ (claims· : Claims) where
   s4 = Call.callB ps·1 r·1 (claims· .2) (claims· .3) T5 (record { pos = 3; st = List.[]; d = 0; at = λ x. x }, tt) 0 List.[] (Syntax.tyStruct (List._∷_ 103 (List._∷_ 97 (List._∷_ 116 (List._∷_ 101 (List._∷_ 119 (List._∷_ 97 (List._∷_ 121 (List._∷_ 58 (List._∷_ 58 (List._∷_ 71 (List._∷_ 97 (List._∷_ 116 (List._∷_ 101 (List._∷_ 119 (List._∷_ 97 (List._∷_ 121 (List._∷_ 65 (List._∷_ 110 (List._∷_ 115 (List._∷_ 119 (List._∷_ 101 (List._∷_ 114 List.[])))))))))))))))))))))) (Syntax.tcons (Syntax.tyInt Syntax.w64) (Syntax.tcons (Syntax.tyInt Syntax.w64) (Syntax.tcons (Syntax.tyInt Syntax.w64) (Syntax.tcons (Syntax.tyInt Syntax.w64) Syntax.tnil)))))
 
   abbrev s5 : Typed.Mo T6 → Typed.Mo T7
-  s5 = Scalar.n-room T6 3 (Syntax.tyStruct (List._∷_ 114 (List._∷_ 117 (List._∷_ 108 (List._∷_ 101 (List._∷_ 115 (List._∷_ 58 (List._∷_ 58 (List._∷_ 65 (List._∷_ 110 (List._∷_ 115 (List._∷_ 119 (List._∷_ 101 (List._∷_ 114 List.[]))))))))))))) (Syntax.tcons (Syntax.tyEnum (List._∷_ 114 (List._∷_ 117 (List._∷_ 108 (List._∷_ 101 (List._∷_ 115 (List._∷_ 58 (List._∷_ 58 (List._∷_ 79 (List._∷_ 117 (List._∷_ 116 (List._∷_ 99 (List._∷_ 111 (List._∷_ 109 (List._∷_ 101 List.[])))))))))))))) (Syntax.ttcons Syntax.tnil (Syntax.ttcons (Syntax.tcons (Syntax.tyInt Syntax.w64) Syntax.tnil) (Syntax.ttcons (Syntax.tcons (Syntax.tyInt Syntax.w64) Syntax.tnil) Syntax.ttnil)))) (Syntax.tcons (Syntax.tyInt Syntax.w64) (Syntax.tcons (Syntax.tyInt Syntax.w64) Syntax.tnil))))
+  s5 = Scalar.n-room T6 3 (Syntax.tyStruct (List._∷_ 114 (List._∷_ 117 (List._∷_ 108 (List._∷_ 101 (List._∷_ 115 (List._∷_ 58 (List._∷_ 58 (List._∷_ 65 (List._∷_ 110 (List._∷_ 115 (List._∷_ 119 (List._∷_ 101 (List._∷_ 114 List.[]))))))))))))) (Syntax.tcons (Syntax.tyEnum (List._∷_ 114 (List._∷_ 117 (List._∷_ 108 (List._∷_ 101 (List._∷_ 115 (List._∷_ 58 (List._∷_ 58 (List._∷_ 79 (List._∷_ 117 (List._∷_ 116 (List._∷_ 99 (List._∷_ 111 (List._∷_ 109 (List._∷_ 101 List.[])))))))))))))) (Syntax.ttcons Syntax.tnil (Syntax.ttcons (Syntax.tcons (Syntax.tyInt Syntax.w16) Syntax.tnil) (Syntax.ttcons (Syntax.tcons (Syntax.tyInt Syntax.w16) Syntax.tnil) Syntax.ttnil)))) (Syntax.tcons (Syntax.tyInt Syntax.w64) (Syntax.tcons (Syntax.tyInt Syntax.w64) Syntax.tnil))))
 
   abbrev s6 : Typed.Mo T7 → Typed.Mo T8
   s6 = Scalar.n-room T7 2 (Syntax.tyInt Syntax.w64)
@@ -260,7 +260,7 @@ module _ (claims· : Claims) where
           d1 = Typed.g-pre 𝓤 H A W 𝓣 E G7 G8 b4 Δ0 (Typed.pass T7 T8 s6) at0 (Scalar.g-room 𝓤 H A W E G7 2 (Syntax.tyInt Syntax.w64) (Scalar.room-sc 𝓤 H A W (Row.sInt Syntax.w64))) d0
 
           d2 : Typed.Typed 𝓤 H A 𝓣 E G6 b4 Δ0 at2
-          d2 = Typed.g-pre 𝓤 H A W 𝓣 E G6 G7 b4 Δ0 (Typed.pass T6 T7 s5) at1 (Scalar.g-room 𝓤 H A W E G6 3 (Syntax.tyStruct (List._∷_ 114 (List._∷_ 117 (List._∷_ 108 (List._∷_ 101 (List._∷_ 115 (List._∷_ 58 (List._∷_ 58 (List._∷_ 65 (List._∷_ 110 (List._∷_ 115 (List._∷_ 119 (List._∷_ 101 (List._∷_ 114 List.[]))))))))))))) (Syntax.tcons (Syntax.tyEnum (List._∷_ 114 (List._∷_ 117 (List._∷_ 108 (List._∷_ 101 (List._∷_ 115 (List._∷_ 58 (List._∷_ 58 (List._∷_ 79 (List._∷_ 117 (List._∷_ 116 (List._∷_ 99 (List._∷_ 111 (List._∷_ 109 (List._∷_ 101 List.[])))))))))))))) (Syntax.ttcons Syntax.tnil (Syntax.ttcons (Syntax.tcons (Syntax.tyInt Syntax.w64) Syntax.tnil) (Syntax.ttcons (Syntax.tcons (Syntax.tyInt Syntax.w64) Syntax.tnil) Syntax.ttnil)))) (Syntax.tcons (Syntax.tyInt Syntax.w64) (Syntax.tcons (Syntax.tyInt Syntax.w64) Syntax.tnil)))) (Local.room-whole 𝓤 H A W (Declared.row Answer.the-type) (Syntax.tyStruct (List._∷_ 114 (List._∷_ 117 (List._∷_ 108 (List._∷_ 101 (List._∷_ 115 (List._∷_ 58 (List._∷_ 58 (List._∷_ 65 (List._∷_ 110 (List._∷_ 115 (List._∷_ 119 (List._∷_ 101 (List._∷_ 114 List.[]))))))))))))) (Syntax.tcons (Syntax.tyEnum (List._∷_ 114 (List._∷_ 117 (List._∷_ 108 (List._∷_ 101 (List._∷_ 115 (List._∷_ 58 (List._∷_ 58 (List._∷_ 79 (List._∷_ 117 (List._∷_ 116 (List._∷_ 99 (List._∷_ 111 (List._∷_ 109 (List._∷_ 101 List.[])))))))))))))) (Syntax.ttcons Syntax.tnil (Syntax.ttcons (Syntax.tcons (Syntax.tyInt Syntax.w64) Syntax.tnil) (Syntax.ttcons (Syntax.tcons (Syntax.tyInt Syntax.w64) Syntax.tnil) Syntax.ttnil)))) (Syntax.tcons (Syntax.tyInt Syntax.w64) (Syntax.tcons (Syntax.tyInt Syntax.w64) Syntax.tnil)))) Path'.refl)) d1
+          d2 = Typed.g-pre 𝓤 H A W 𝓣 E G6 G7 b4 Δ0 (Typed.pass T6 T7 s5) at1 (Scalar.g-room 𝓤 H A W E G6 3 (Syntax.tyStruct (List._∷_ 114 (List._∷_ 117 (List._∷_ 108 (List._∷_ 101 (List._∷_ 115 (List._∷_ 58 (List._∷_ 58 (List._∷_ 65 (List._∷_ 110 (List._∷_ 115 (List._∷_ 119 (List._∷_ 101 (List._∷_ 114 List.[]))))))))))))) (Syntax.tcons (Syntax.tyEnum (List._∷_ 114 (List._∷_ 117 (List._∷_ 108 (List._∷_ 101 (List._∷_ 115 (List._∷_ 58 (List._∷_ 58 (List._∷_ 79 (List._∷_ 117 (List._∷_ 116 (List._∷_ 99 (List._∷_ 111 (List._∷_ 109 (List._∷_ 101 List.[])))))))))))))) (Syntax.ttcons Syntax.tnil (Syntax.ttcons (Syntax.tcons (Syntax.tyInt Syntax.w16) Syntax.tnil) (Syntax.ttcons (Syntax.tcons (Syntax.tyInt Syntax.w16) Syntax.tnil) Syntax.ttnil)))) (Syntax.tcons (Syntax.tyInt Syntax.w64) (Syntax.tcons (Syntax.tyInt Syntax.w64) Syntax.tnil)))) (Local.room-whole 𝓤 H A W (Declared.row Answer.the-type) (Syntax.tyStruct (List._∷_ 114 (List._∷_ 117 (List._∷_ 108 (List._∷_ 101 (List._∷_ 115 (List._∷_ 58 (List._∷_ 58 (List._∷_ 65 (List._∷_ 110 (List._∷_ 115 (List._∷_ 119 (List._∷_ 101 (List._∷_ 114 List.[]))))))))))))) (Syntax.tcons (Syntax.tyEnum (List._∷_ 114 (List._∷_ 117 (List._∷_ 108 (List._∷_ 101 (List._∷_ 115 (List._∷_ 58 (List._∷_ 58 (List._∷_ 79 (List._∷_ 117 (List._∷_ 116 (List._∷_ 99 (List._∷_ 111 (List._∷_ 109 (List._∷_ 101 List.[])))))))))))))) (Syntax.ttcons Syntax.tnil (Syntax.ttcons (Syntax.tcons (Syntax.tyInt Syntax.w16) Syntax.tnil) (Syntax.ttcons (Syntax.tcons (Syntax.tyInt Syntax.w16) Syntax.tnil) Syntax.ttnil)))) (Syntax.tcons (Syntax.tyInt Syntax.w64) (Syntax.tcons (Syntax.tyInt Syntax.w64) Syntax.tnil)))) Path'.refl)) d1
 
           d3 : Typed.Typed 𝓤 H A 𝓣 E G5 b5 Δ0 at3
           d3 = Typed.s-seq 𝓤 H A W 𝓣 E G5 G6 b3 b4 Δ0 (Typed.both s4) at2 (Plain.t-call-plain 𝓤 H A W 𝓣 0 ps·1 r·1 (claims· .2) (claims· .3) "gateway::exported" (known .1) E (λ pos β. β) G5 (record { pos = 3; st = List.[]; d = 0; at = λ x. x }, tt) 0 List.[] (Call.sub-id 𝓤 H A W (G5 .slots)) ((Yields.yields-copy 𝓤 H A W (λ ρ. Unit) (Declared.row Answer.the-type) Path'.refl (Copies.cStruct Answer.the-type Laws'.the-laws Laws'.the-copy .copy 𝓤 H A W) (Rows.whole (Declared.row Answer.the-type)) (λ x. x) (λ x. x) (λ ρ told. Local.mem-whole 𝓤 H A W (Declared.row Answer.the-type) ρ) λ ρ told. Local.whole-mem 𝓤 H A W (Declared.row Answer.the-type) ρ, Path'.refl), tt) (Reads.room-gone 𝓤 H A (Syntax.tyStruct (List._∷_ 103 (List._∷_ 97 (List._∷_ 116 (List._∷_ 101 (List._∷_ 119 (List._∷_ 97 (List._∷_ 121 (List._∷_ 58 (List._∷_ 58 (List._∷_ 71 (List._∷_ 97 (List._∷_ 116 (List._∷_ 101 (List._∷_ 119 (List._∷_ 97 (List._∷_ 121 (List._∷_ 65 (List._∷_ 110 (List._∷_ 115 (List._∷_ 119 (List._∷_ 101 (List._∷_ 114 List.[])))))))))))))))))))))) (Syntax.tcons (Syntax.tyInt Syntax.w64) (Syntax.tcons (Syntax.tyInt Syntax.w64) (Syntax.tcons (Syntax.tyInt Syntax.w64) (Syntax.tcons (Syntax.tyInt Syntax.w64) Syntax.tnil)))))) tt Path'.refl) d2
@@ -269,7 +269,7 @@ module _ (claims· : Claims) where
           d4 = Typed.g-pre 𝓤 H A W 𝓣 E G4 G5 b5 Δ0 (Typed.pass T4 T5 s3) at3 (Scalar.g-room 𝓤 H A W E G4 5 (Syntax.tyStruct (List._∷_ 38 (List._∷_ 91 (List._∷_ 93 List.[]))) (Syntax.tcons (Syntax.tyRef Syntax.erased Syntax.imm Lent.refS) (Syntax.tcons (Syntax.tyInt Syntax.w64) Syntax.tnil))) (Shared.room-sslice 𝓤 H A W Lent.R (Syntax.tyRef Syntax.erased Syntax.imm Lent.refS) 0)) d3
 
           d5 : Typed.Typed 𝓤 H A 𝓣 E G3 b6 Δ0 at5
-          d5 = Typed.s-seq 𝓤 H A W 𝓣 E G3 G4 b2 b5 Δ0 (Typed.both s2) at4 (Plain.t-call-plain 𝓤 H A W 𝓣 1 ps·0 r·0 (claims· .0) (claims· .1) "lent::validate_graph" (known .0) E (λ pos β. β) G3 (record { pos = 5; ty = Syntax.tyRef Syntax.erased Syntax.imm Lent.refS; ref = λ x. x }, (Num.vAt 2 λ x. x, tt)) 3 (List._∷_ 0 List.[]) (Call.sub-id 𝓤 H A W (G3 .slots)) (ShrSlice.spares-sslice 𝓤 H A W Lent.R (Syntax.tyRef Syntax.erased Syntax.imm Lent.refS) 0, Shared.reads-sslice 𝓤 H A W Lent.R (Syntax.tyRef Syntax.erased Syntax.imm Lent.refS) 0, Path'.refl, ((Scalar.reads-sc 𝓤 H A W (Row.sInt Syntax.w64), Path'.refl), tt)) (Reads.room-gone 𝓤 H A (Syntax.tyStruct (List._∷_ 114 (List._∷_ 117 (List._∷_ 108 (List._∷_ 101 (List._∷_ 115 (List._∷_ 58 (List._∷_ 58 (List._∷_ 65 (List._∷_ 110 (List._∷_ 115 (List._∷_ 119 (List._∷_ 101 (List._∷_ 114 List.[]))))))))))))) (Syntax.tcons (Syntax.tyEnum (List._∷_ 114 (List._∷_ 117 (List._∷_ 108 (List._∷_ 101 (List._∷_ 115 (List._∷_ 58 (List._∷_ 58 (List._∷_ 79 (List._∷_ 117 (List._∷_ 116 (List._∷_ 99 (List._∷_ 111 (List._∷_ 109 (List._∷_ 101 List.[])))))))))))))) (Syntax.ttcons Syntax.tnil (Syntax.ttcons (Syntax.tcons (Syntax.tyInt Syntax.w64) Syntax.tnil) (Syntax.ttcons (Syntax.tcons (Syntax.tyInt Syntax.w64) Syntax.tnil) Syntax.ttnil)))) (Syntax.tcons (Syntax.tyInt Syntax.w64) (Syntax.tcons (Syntax.tyInt Syntax.w64) Syntax.tnil))))) (tt, tt) Path'.refl) d4
+          d5 = Typed.s-seq 𝓤 H A W 𝓣 E G3 G4 b2 b5 Δ0 (Typed.both s2) at4 (Plain.t-call-plain 𝓤 H A W 𝓣 1 ps·0 r·0 (claims· .0) (claims· .1) "lent::validate_graph" (known .0) E (λ pos β. β) G3 (record { pos = 5; ty = Syntax.tyRef Syntax.erased Syntax.imm Lent.refS; ref = λ x. x }, (Num.vAt 2 λ x. x, tt)) 3 (List._∷_ 0 List.[]) (Call.sub-id 𝓤 H A W (G3 .slots)) (ShrSlice.spares-sslice 𝓤 H A W Lent.R (Syntax.tyRef Syntax.erased Syntax.imm Lent.refS) 0, Shared.reads-sslice 𝓤 H A W Lent.R (Syntax.tyRef Syntax.erased Syntax.imm Lent.refS) 0, Path'.refl, ((Scalar.reads-sc 𝓤 H A W (Row.sInt Syntax.w64), Path'.refl), tt)) (Reads.room-gone 𝓤 H A (Syntax.tyStruct (List._∷_ 114 (List._∷_ 117 (List._∷_ 108 (List._∷_ 101 (List._∷_ 115 (List._∷_ 58 (List._∷_ 58 (List._∷_ 65 (List._∷_ 110 (List._∷_ 115 (List._∷_ 119 (List._∷_ 101 (List._∷_ 114 List.[]))))))))))))) (Syntax.tcons (Syntax.tyEnum (List._∷_ 114 (List._∷_ 117 (List._∷_ 108 (List._∷_ 101 (List._∷_ 115 (List._∷_ 58 (List._∷_ 58 (List._∷_ 79 (List._∷_ 117 (List._∷_ 116 (List._∷_ 99 (List._∷_ 111 (List._∷_ 109 (List._∷_ 101 List.[])))))))))))))) (Syntax.ttcons Syntax.tnil (Syntax.ttcons (Syntax.tcons (Syntax.tyInt Syntax.w16) Syntax.tnil) (Syntax.ttcons (Syntax.tcons (Syntax.tyInt Syntax.w16) Syntax.tnil) Syntax.ttnil)))) (Syntax.tcons (Syntax.tyInt Syntax.w64) (Syntax.tcons (Syntax.tyInt Syntax.w64) Syntax.tnil))))) (tt, tt) Path'.refl) d4
 
           d6 : Typed.Typed 𝓤 H A 𝓣 E G2 b7 Δ0 at6
           d6 = Typed.s-seq 𝓤 H A W 𝓣 E G2 G3 b1 b6 Δ0 (Typed.ask s1) at5 (Relend.t-sl-aggregate 𝓤 H A W E Lent.R 𝓣 (Relend.asShr Lent.R) G2 4 5 0 (Syntax.tyRef Syntax.erased Syntax.imm Lent.refS) (Syntax.tyRef Syntax.erased Syntax.imm Lent.refS) (λ x. x) (Scalar.oFld 1 (List._∷_ (Syntax.field 1) List.[]) (Syntax.tyInt Syntax.w64) 8 Shared.lenV) (Reads.as-is 𝓤 H A (Relend.ssptr Lent.R (Syntax.tyRef Syntax.erased Syntax.imm Lent.refS) 0)) (Reads.room-gone 𝓤 H A (Syntax.tyStruct (List._∷_ 38 (List._∷_ 91 (List._∷_ 93 List.[]))) (Syntax.tcons (Syntax.tyRef Syntax.erased Syntax.imm Lent.refS) (Syntax.tcons (Syntax.tyInt Syntax.w64) Syntax.tnil)))) (Shared.reads-sslice-len 𝓤 H A W Lent.R (Syntax.tyRef (Syntax.named 0) Syntax.imm Lent.refS) 0 8 Path'.refl, Path'.refl) Path'.refl Path'.refl λ b o k. tt) d5

@@ -23,6 +23,9 @@ enum-known-outcome c = search needs
 slice-aggregate-put-two-3 : tie.Need-slice-aggregate-put-two-3
 slice-aggregate-put-two-3 c = search needs
 
+cast-put-two : tie.Need-cast-put-two
+cast-put-two c = search needs
+
 slice-aggregate-put-two-4 : tie.Need-slice-aggregate-put-two-4
 slice-aggregate-put-two-4 c = search needs
 
@@ -35,6 +38,9 @@ enum-known-outcome-2 c = search needs
 
 slice-aggregate-put-two-5 : tie.Need-slice-aggregate-put-two-5
 slice-aggregate-put-two-5 c = search needs
+
+cast-put-two-2 : tie.Need-cast-put-two-2
+cast-put-two-2 c = search needs
 
 slice-aggregate-put-two-6 : tie.Need-slice-aggregate-put-two-6
 slice-aggregate-put-two-6 c = search needs
@@ -74,10 +80,12 @@ put-told-spec =
     put-two-requires
     enum-known-outcome
     slice-aggregate-put-two-3
+    cast-put-two
     slice-aggregate-put-two-4
     put-two-requires-2
     enum-known-outcome-2
     slice-aggregate-put-two-5
+    cast-put-two-2
     slice-aggregate-put-two-6
     put-two-requires-3
     same-length

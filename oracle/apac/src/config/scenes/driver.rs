@@ -81,7 +81,7 @@ impl End {
         }
     }
 
-    fn of_update(stop: Option<String>, position: usize) -> Self {
+    pub(super) fn of_update(stop: Option<String>, position: usize) -> Self {
         match stop {
             None => Self::Read { position },
             Some(reason) => Self::Stopped { reason, position },
@@ -110,7 +110,7 @@ impl From<Stop> for End {
 }
 
 impl Parser<'_> {
-    fn end(&self) -> End {
+    pub(super) fn end(&self) -> End {
         End::Read {
             position: self.pos(),
         }
