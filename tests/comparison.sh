@@ -1,10 +1,10 @@
 #!/usr/bin/env bash
 # The port compared with the oracle, which is the Rust, and for name words docs/FIELDS.md: comparison.sh [SEED [SCALE]].
 #
-# Oracle and static library are built and tested, and the stored answers are made anew and held to the stored ones. Then over
-# a million requests that follow from the seed are asked: scenes, lists of packets, updates, positions, validations, metadata
-# and the texts of name words of the library; scripts of fields and show files of the program replay, which rt ci has built.
-# At the end stands how often each number occurs.
+# Oracle and static library are built and tested, fuzz target and benchmarks too, and the stored answers are made anew and
+# held to the stored ones. Then over a million requests that follow from the seed are asked: scenes, lists of packets, updates,
+# positions, validations, metadata and the texts of name words of the library; scripts of fields and show files of the program
+# replay, which rt ci has built. At the end stands how often each number occurs.
 set -euo pipefail
 cd "$(dirname "$0")/.."
 seed=${1:-2}
@@ -23,7 +23,7 @@ echo "the stored answers are the oracle's"
 
 rt staticlib gateway
 cargo build --quiet --release --offline --manifest-path "$manifest" -p port
-cargo test --quiet --release --offline --manifest-path "$manifest" -p port
+cargo test --quiet --release --offline --manifest-path "$manifest" -p port -p fuzz -p bench
 
 # The fields of the stored answers, which are replayed by their words, are compared by the texts of their names too.
 "$oracle" sample 1 | grep -Ev '^(fields|show) ' >"$work/requests"
