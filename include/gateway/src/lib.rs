@@ -7,7 +7,7 @@
 //! use gateway::{Outcome, graph_update, read_scene};
 //!
 //! let mut scene = read_scene(&[0x0a, 0x00, 0x80, 0x80, 0x00, 0x80], 0, false, &mut []);
-//! assert_eq!(scene.answer.outcome, Outcome::Read);
+//! assert_eq!(scene.answer().outcome, Outcome::Read);
 //! let answer = graph_update(&[0xc1, 0x00], 0, false, &mut [], scene.shapes_mut());
 //! assert_eq!(answer.outcome, Outcome::Refused(9));
 //! ```
@@ -64,28 +64,28 @@ impl From<raw::GatewayAnswer> for Answer {
     }
 }
 
-/// What a scene answers.
+/// What a scene answers. It is kept as the library gives it, so that its shapes are not copied.
 #[derive(Clone, Debug, PartialEq, Eq)]
-pub struct Scene {
-    pub answer: Answer,
-    count: usize,
-    shapes: [PositionSyntax; MAX_POSITIONS],
-}
+pub struct Scene(raw::GatewayScene);
 
 impl Scene {
+    pub fn answer(&self) -> Answer {
+        self.0.answer.into()
+    }
+
     /// The shapes of the declared positions; none unless the scene was read.
     pub fn shapes(&self) -> &[PositionSyntax] {
-        &self.shapes[..self.count]
+        &self.0.shapes[..self.0.count]
     }
 
     /// The same, to be lent to [`graph_update`].
     pub fn shapes_mut(&mut self) -> &mut [PositionSyntax] {
-        &mut self.shapes[..self.count]
+        &mut self.0.shapes[..self.0.count]
     }
 
     /// The shapes beyond the count, which are the default.
     pub fn beyond(&self) -> &[PositionSyntax] {
-        &self.shapes[self.count..]
+        &self.0.shapes[self.0.count..]
     }
 }
 
@@ -110,12 +110,7 @@ macro_rules! reading {
 
 /// Reads a scene, from the bit `offset` on. If `recording`, its fields are put into the words.
 pub fn read_scene(bytes: &[u8], offset: usize, recording: bool, words: &mut [u64]) -> Scene {
-    let scene = reading!(gateway_scene(bytes, offset, recording, words));
-    Scene {
-        answer: scene.answer.into(),
-        count: scene.count,
-        shapes: scene.shapes,
-    }
+    Scene(reading!(gateway_scene(bytes, offset, recording, words)))
 }
 
 /// Reads an update of these shapes, all of them, and changes them only if it is read.

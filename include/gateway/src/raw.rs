@@ -16,6 +16,7 @@ pub struct PositionSyntax {
 }
 
 #[repr(C)]
+#[derive(Clone, Copy, Debug, PartialEq, Eq)]
 pub struct GatewayAnswer {
     pub outcome: u64,
     pub number: u64,
@@ -24,6 +25,7 @@ pub struct GatewayAnswer {
 }
 
 #[repr(C)]
+#[derive(Clone, Debug, PartialEq, Eq)]
 pub struct GatewayScene {
     pub answer: GatewayAnswer,
     pub count: usize,

@@ -57,7 +57,7 @@ fn on(parent: usize) -> PositionSyntax {
 #[test]
 fn a_scene_gives_its_shapes() {
     let scene = scene(&SCENE);
-    assert_eq!(scene.answer, ends(Read, 48, 20));
+    assert_eq!(scene.answer(), ends(Read, 48, 20));
     assert_eq!(scene.shapes(), [on(0), on(1)]);
     assert_eq!(scene.beyond(), [PositionSyntax::default(); 61]);
 }
@@ -70,7 +70,7 @@ fn a_refused_scene_gives_none() {
         (&[0x04, 0x00, 0x04, 0x00], ends(Refused(8), 30, 11)),
     ] {
         let scene = scene(bytes);
-        assert_eq!(scene.answer, answer);
+        assert_eq!(scene.answer(), answer);
         assert_eq!(scene.shapes(), []);
         assert_eq!(scene.beyond(), [PositionSyntax::default(); 63]);
     }
@@ -179,7 +179,7 @@ fn only_the_words_of_counted_fields_are_written() {
 fn no_word_is_touched_with_recording_off() {
     let mut words = [BLANK; 100];
     let scene = read_scene(&SCENE, 0, false, &mut words);
-    assert_eq!(scene.answer, ends(Read, 48, 20));
+    assert_eq!(scene.answer(), ends(Read, 48, 20));
     assert_eq!(words, [BLANK; 100]);
 }
 

@@ -70,11 +70,12 @@ impl Row {
 
     /// The positions that the scene declares, in its first six bits.
     pub fn positions(&self) -> u8 {
-        match &self.reading {
-            Reading::Scene => self.bytes[0] >> 2,
-            Reading::Update { scene } => scene[0] >> 2,
-            Reading::Metadata => 0,
-        }
+        let scene = match &self.reading {
+            Reading::Scene => &self.bytes,
+            Reading::Update { scene } => scene,
+            Reading::Metadata => return 0,
+        };
+        scene.first().map_or(0, |byte| byte >> 2)
     }
 
     pub fn question(&self) -> Question {

@@ -78,7 +78,7 @@ impl<'a> Port<'a> {
         let bytes = black_box(self.row.bytes.as_slice());
         let words = self.words.as_mut_slice();
         match self.row.reading {
-            Reading::Scene => black_box(&read_scene(bytes, 0, self.recording, words)).answer,
+            Reading::Scene => black_box(&read_scene(bytes, 0, self.recording, words)).answer(),
             Reading::Metadata => read_metadata(bytes, 0, self.recording, words),
             Reading::Update { .. } => {
                 graph_update(bytes, 0, self.recording, words, &mut self.shapes)

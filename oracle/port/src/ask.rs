@@ -42,7 +42,7 @@ fn answer_list(list: &List) -> Result<Answer, String> {
         let Input { offset, bytes } = &list.scene;
         let scene = read_scene(bytes, *offset as usize, recording, words);
         shapes = Buffer::holding(scene.shapes().to_vec());
-        Ok((scene.answer, declared(&scene)?))
+        Ok((scene.answer(), declared(&scene)?))
     });
     let others = list.updates.iter().map(|Input { offset, bytes }| {
         recorded("update", recording, room, |words| {
@@ -76,7 +76,7 @@ fn asked(call: &Call, words: &mut [u64]) -> Result<Left, String> {
     match &call.question {
         Question::Scene => {
             let scene = read_scene(bytes, offset, recording, words);
-            Ok((scene.answer, declared(&scene)?))
+            Ok((scene.answer(), declared(&scene)?))
         }
         Question::Update(given) => {
             let mut shapes = Buffer::holding(lent(given));
