@@ -50,11 +50,8 @@ module _ (count : ℕ) (shapes : List PositionSyntax) where
   pub too-many : 63 < count → 2 ≡ shapesQuestion count shapes
   too-many h = sym (ap numbered (lt-leb _ _ h))
 
-  pub all-kept : count ≤ 63 → true ≡ allShaped shapes → 0 ≡ shapesQuestion count shapes
-  all-kept h q = sym (ap numbered (le-leb _ _ h) ∙ ap (λ (b : Bool). pick {A = ℕ} b 0 2) (sym q))
-
-  pub all-broken : count ≤ 63 → false ≡ allShaped shapes → 2 ≡ shapesQuestion count shapes
-  all-broken h q = sym (ap numbered (le-leb _ _ h) ∙ ap (λ (b : Bool). pick {A = ℕ} b 0 2) (sym q))
+  pub all-asked : {b : Bool} → count ≤ 63 → b ≡ allShaped shapes → _≡_ {A = ℕ} (pick b 0 2) (shapesQuestion count shapes)
+  all-asked h q = sym (ap numbered (le-leb _ _ h) ∙ ap (λ (b : Bool). pick {A = ℕ} b 0 2) (sym q))
 
 -- question 2 is met where its number is 0
 pub question-met : (b : Bool) → _≡_ {A = ℕ} (pick b 0 2) 0 → b ≡ true

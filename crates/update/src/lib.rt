@@ -110,7 +110,7 @@ pub fn read_update(
     entered(bytes, words, s, offset, shapes, count, own)
 }
 
-// That update: it counts from its acceptance, or never.
+// An update of the first `count` shapes, from the bit `offset` on: it counts from its acceptance, or never.
 pub fn graph_update(
     bytes: &[u8],
     offset: usize,

@@ -10,7 +10,7 @@ use denote.Ref.{now}
 use Rattle.position.specs.Shape.{default}
 use Rattle.position.specs.Entry.{isShaped}
 use Rattle.update.specs.Update.{allShaped}
-use Rattle.update.proofs.Questions.{shape-kept, shape-broken, shapes-kept, too-many, all-kept, all-broken}
+use Rattle.update.proofs.Questions.{shape-kept, shape-broken, shapes-kept, too-many, all-asked}
 use Rattle.lent.proofs.question.Statement.{statement}
 use Rattle.lent.proofs.question.Proof.Tie as tie
 
@@ -48,7 +48,7 @@ returns-2 c =
     let at-test = c .before .before .before in
     let at-loop = at-test .before in
     let shapes = now (at-loop .before .before .before .args .shapes) in
-    all-broken _ shapes (at-loop .before .before .if1 .left) (shape-broken shapes _ _ (omega arith) (asked (c .before)) (at-test .loop-test .taken) (at-loop .loop .inv .1) (c .if2 .taken) ∙ ap allShaped (take-length shapes))
+    all-asked _ shapes (at-loop .before .before .if1 .left) (shape-broken shapes _ _ (omega arith) (asked (c .before)) (at-test .loop-test .taken) (at-loop .loop .inv .1) (c .if2 .taken) ∙ ap allShaped (take-length shapes))
 
 add-i : tie.Need-add-i Inv-loop μ-loop
 add-i c = search needs
@@ -67,7 +67,7 @@ returns-3 : tie.Need-returns-3 Inv-loop μ-loop
 returns-3 c =
     let at-loop = c .before in
     let shapes = now (at-loop .before .before .before .args .shapes) in
-    all-kept _ shapes (at-loop .before .before .if1 .left) (shapes-kept shapes _ _ (omega arith) (c .loop-test .left) (at-loop .loop .inv .1) ∙ ap allShaped (take-length shapes))
+    all-asked _ shapes (at-loop .before .before .if1 .left) (shapes-kept shapes _ _ (omega arith) (c .loop-test .left) (at-loop .loop .inv .1) ∙ ap allShaped (take-length shapes))
 
 pub question-spec : {M : Type 1} → statement M
 question-spec =
