@@ -62,61 +62,66 @@ typedef struct {
     size_t counted;   /* the fields counted, recorded or not; of a name the bytes of its text */
 } GatewayAnswer;
 
-/* Why a call was refused or stopped.
+/* Why a call was refused or stopped. The words beside the numbers are those of docs/NUMBERS.md.
  *
  * 1, 2, 25, 26, and 3 for the offset, give position 0 and count nothing. 3 for a field gives the
  * place of the read that failed: in an escaped number that part, in a label that byte, in a payload
  * its start. 4 to 22 and the stops give the place just after the bits last read. Only
  * gateway_validation gives 8 and 9 at a position that it was handed. */
 enum GatewayNumber {
-    /* Asked first, in this order: 1 and 3 by every reading, 2 where shapes are lent. */
+    /* Asked first, in this order: 1 and 3 by every reading, 2 where shapes are lent. 3 is given for
+     * an offset past the input's end, and later for each field whose bits are not there. */
     GATEWAY_INPUT_LIMIT = 1, /* the input has more than 8,388,608 bytes */
     GATEWAY_SHAPE_LIMIT = 2, /* more than 63 shapes, or a precision above 24 */
-    GATEWAY_TRUNCATED = 3,   /* the offset is past the input's end; a field's bits are not there */
+    GATEWAY_TRUNCATED = 3,   /* the bits asked for are not there */
 
-    /* Asked of each field, after 3 and in this order. */
-    GATEWAY_FIELD_LIMIT = 4, /* 16,384 fields are counted already, recording or not */
-    GATEWAY_WORD_LIMIT = 5,  /* recording, and no five words remain */
+    /* Asked of each field, after 3 and in this order: 4 recording or not, 5 only if recording. */
+    GATEWAY_FIELD_LIMIT = 4, /* 16,384 fields are counted already */
+    GATEWAY_WORD_LIMIT = 5,  /* no five words remain for the field */
 
-    /* Asked where a count says how many things follow, in a scene or metadata. */
-    GATEWAY_COUNT_RANGE = 6, /* count above 4,096, or count x least bits above the bits left */
+    /* Asked where a count says how many things follow, in a scene or metadata. The bits left can
+     * hold them unless count x least bits is above the bits left. */
+    GATEWAY_COUNT_RANGE = 6, /* count above 4,096, or above what the bits left can hold */
 
     /* Asked of each position, wherever it stands. */
     GATEWAY_POSITION_EXTENSIONS = 7, /* no type 0 among 32 position extensions */
 
     /* Asked of all parents after the last position. The rank of a position is 1 if its parent is 0,
      * otherwise one more than the rank of its parent, which must be declared. The lowest-numbered
-     * position without a rank decides. */
-    GATEWAY_SCENE_PARENT = 8,       /* its chain of parents leaves the declared numbers */
-    GATEWAY_SCENE_PARENT_CYCLE = 9, /* its chain of parents returns */
+     * position without a rank decides: 8 if its chain of parents leaves the declared numbers, 9 if
+     * the chain returns. */
+    GATEWAY_SCENE_PARENT = 8,       /* a chain of parents leaves the declared positions */
+    GATEWAY_SCENE_PARENT_CYCLE = 9, /* a chain of parents closes a circle */
 
-    /* Asked of metadata. */
-    GATEWAY_METADATA_PRESENCE = 10,             /* no configuration present */
+    /* Asked of metadata. Headphone bytes are too few if 3 x channels + 8 is above 8 x headphone
+     * bytes. */
+    GATEWAY_METADATA_PRESENCE = 10,             /* no configuration is present */
     GATEWAY_METADATA_PARAMETER_COUNT = 11,      /* more than 128 global parameters */
     GATEWAY_RENDERER_PARAMETER_COUNT = 12,      /* more than 128 renderer parameters */
-    GATEWAY_RENDERER_REVERB_TYPE = 13,          /* reverb type not below 4 */
-    GATEWAY_RENDERER_MATRIX_LOCATION = 14,      /* matrix location not below 3 */
-    GATEWAY_RENDERER_RADIATION_TYPE = 15,       /* radiation type not below 5 */
-    GATEWAY_METADATA_COMPONENT_TYPE = 16,       /* component type not below 5 */
+    GATEWAY_RENDERER_REVERB_TYPE = 13,          /* reverb type above 3 */
+    GATEWAY_RENDERER_MATRIX_LOCATION = 14,      /* matrix location above 2 */
+    GATEWAY_RENDERER_RADIATION_TYPE = 15,       /* radiation type above 4 */
+    GATEWAY_METADATA_COMPONENT_TYPE = 16,       /* component type above 4 */
     GATEWAY_METADATA_STRING_LIMIT = 17,         /* label not ended within 4,097 bytes */
-    GATEWAY_METADATA_HEADPHONE_SIZE = 18,       /* 3 x channels + 8 above 8 x headphone bytes */
-    GATEWAY_METADATA_COMPRESSION_SIZE = 19,     /* compression bytes not in the input, or not used up */
+    GATEWAY_METADATA_HEADPHONE_SIZE = 18,       /* too few headphone bytes for the channels */
+    GATEWAY_METADATA_COMPRESSION_SIZE = 19, /* compression bytes not inside the input, or not used up */
     GATEWAY_METADATA_TABLE_RESOURCE_LIMIT = 20, /* symbol width above 12 */
     GATEWAY_METADATA_CODEWORD_WIDTH = 21,       /* codeword above 64 bits */
     /* At precision 32 each probability must be finite and not below zero (-0 passes), and all,
      * added in order in binary32, must come to exactly 1. At others their sum must not be 0. */
-    GATEWAY_METADATA_PROBABILITY = 22, /* that is not kept, or the parameter is not finite */
+    GATEWAY_METADATA_PROBABILITY = 22, /* probability rules not kept, or parameter not finite */
 
     /* Asked of a name, in this order. */
-    GATEWAY_UNKNOWN_WORD = 25, /* word not known */
-    GATEWAY_SHORT_BUFFER = 26, /* buffer not long enough */
+    GATEWAY_UNKNOWN_WORD = 25, /* name word not known */
+    GATEWAY_SHORT_BUFFER = 26, /* buffer too short for the text */
 
-    /* The stops, all of metadata. */
+    /* The stops, all of metadata. 32 stops before the value is read, 33 after the HRTF's mode. LZW
+     * is the compression of type 0. */
     GATEWAY_ROOM_GEOMETRY_FALLBACK = 31,     /* room-geometry fallback not 0 */
-    GATEWAY_DOUBLE_PRECISION_RADIATION = 32, /* 64-bit radiation value, before it is read */
-    GATEWAY_RESOURCE_HRTF = 33,              /* HRTF type 2, after its mode */
+    GATEWAY_DOUBLE_PRECISION_RADIATION = 32, /* 64-bit radiation value */
+    GATEWAY_RESOURCE_HRTF = 33,              /* HRTF type 2 */
     GATEWAY_HRTF_TYPE = 34,                  /* HRTF type above 2 */
-    GATEWAY_LZW_WIDTHS = 35 /* type 0 compression, initial width above 15 or greatest above 16 */
+    GATEWAY_LZW_WIDTHS = 35 /* LZW initial width above 15, or greatest width above 16 */
 };
 
 /* The words of a recorded field: the value of field i, counted from 0, is

@@ -3,21 +3,9 @@
 # and where reading or writing fails; and then on every show of the stored sample, whose text must be the oracle's.
 set -euo pipefail
 cd "$(dirname "$0")/.."
-work=$(mktemp -d)
-trap 'rm -rf "$work"' EXIT
+program=bin/scene-show
+source tests/lib/program.sh
 
-# Runs scene-show on this standard input, and holds its status, its report and what it printed to these.
-expect() {
-  local status=0
-  bin/scene-show >"$work/printed" 2>"$work/report" || status=$?
-  if [ "$status" != "$1" ] || [ "$(cat "$work/report")" != "$2" ] || ! cmp -s "$work/printed" "$3"; then
-    echo "scene-show: status $status where $1 was expected, report and text:"
-    cat "$work/report" "$work/printed"
-    exit 1
-  fi
-}
-
-: >"$work/nothing"
 echo "file refused 23" >"$work/23"
 echo "file refused 24" >"$work/24"
 worked=crates/scene_show/stdout
@@ -33,30 +21,11 @@ expect 0 "" "$work/23" < <(head -c 65537 /dev/zero)
 expect 0 "" "$work/23" < <(head -c 100000000 /dev/zero)
 expect 1 "scene-show: standard input: Is a directory" "$work/nothing" <docs
 expect 1 "scene-show: standard input: Bad file descriptor" "$work/nothing" <&-
-
-# Where nothing can be printed, that is reported, and this is the status.
-failed() {
-  [ "$1" = "$2" ] && [ "$(cat "$work/report")" = "$3" ] && return
-  echo "scene-show: status $1 where $2 was expected, and the report:"
-  cat "$work/report"
-  exit 1
-}
-status=0
-bin/scene-show <docs/worked.show 2>"$work/report" >/dev/full || status=$?
-failed "$status" 1 "scene-show: standard output: No space left on device"
-status=0
-bin/scene-show <docs/worked.show 2>"$work/report" >&- || status=$?
-failed "$status" 1 "scene-show: standard output: closed"
-{ sleep 0.2 && bin/scene-show <docs/worked.show 2>"$work/report" || echo $? >"$work/status"; } | :
-failed "$(cat "$work/status")" 1 "scene-show: standard output: Broken pipe"
-status=0
-bin/scene-show docs/worked.show 2>"$work/report" || status=$?
-failed "$status" 2 "usage: scene-show < FILE"
+unprinted docs/worked.show
+expect 2 "usage: scene-show < FILE" "$work/nothing" docs/worked.show </dev/null
 
 # The shows of the stored sample, one by one. In an answer's line each newline is written as a slash.
-export CARGO_TARGET_DIR=$PWD/target/oracle
-cargo build --quiet --release --offline --manifest-path oracle/Cargo.toml
-oracle=$CARGO_TARGET_DIR/release/oracle
+build_oracle
 "$oracle" sample 1 | grep '^show ' >"$work/shows"
 "$oracle" answer <"$work/shows" >"$work/answers"
 shown=0

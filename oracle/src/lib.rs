@@ -7,6 +7,7 @@ pub mod compare;
 pub mod driver;
 pub mod generate;
 mod label;
+pub mod listing;
 pub mod names;
 pub mod program;
 pub mod record;

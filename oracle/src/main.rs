@@ -1,5 +1,6 @@
 //! The program: its commands, each from standard input to standard output.
 use oracle::driver::{answer, confirm_default_shape};
+use oracle::listing::Folder;
 use oracle::program::{each_line, ended, told};
 use oracle::request::Request;
 use oracle::table::Table;
@@ -13,7 +14,8 @@ const USAGE: &str = "usage: oracle generate SEED SCALE > requests
        oracle compare ANSWERS ANSWERS
        oracle table < answers
        oracle sample SEED > requests
-       oracle record < requests > records";
+       oracle record < requests > records
+       oracle listings DIR < requests";
 
 fn main() -> ExitCode {
     let words: Vec<String> = env::args().skip(1).collect();
@@ -43,6 +45,10 @@ fn run(words: &[&str]) -> Result<bool, String> {
             each_line(|line| write_record(line, &mut out))?;
             true
         }
+        ["listings", folder] => {
+            write_listings(folder, &mut out)?;
+            true
+        }
         ["table"] => write_table(&mut out)?,
         ["compare", a, b] => write_comparison(a, b, &mut out)?,
         _ => return Err(USAGE.into()),
@@ -67,6 +73,12 @@ fn write_answer(line: &str, out: &mut impl Write) -> Result<(), String> {
 fn write_record(line: &str, out: &mut impl Write) -> Result<(), String> {
     let record = record::record(&Request::parse(line)?)?;
     out.write_all(&record).map_err(told)
+}
+
+fn write_listings(folder: &str, out: &mut impl Write) -> Result<(), String> {
+    let mut folder = Folder::new(folder);
+    each_line(|line| folder.add(&Request::parse(line)?))?;
+    writeln!(out, "{} cases", folder.count()).map_err(told)
 }
 
 fn write_table(out: &mut impl Write) -> Result<bool, String> {

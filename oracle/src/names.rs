@@ -1,6 +1,6 @@
 //! Name words: 64-bit numbers for the texts by which the Rust names its fields. How they are made,
 //! and their tables, is read from docs/FIELDS.md, here called the paper.
-use crate::text::number;
+use crate::text::{cells, number};
 use std::sync::LazyLock;
 
 const PAPER: &str = include_str!("../../docs/FIELDS.md");
@@ -180,11 +180,6 @@ fn section(title: &str) -> impl Iterator<Item = &'static str> {
     let title = format!("## {title}");
     let lines = PAPER.lines().skip_while(move |line| *line != title).skip(1);
     lines.take_while(|line| !line.starts_with("## "))
-}
-
-/// The cells of a line of a table.
-fn cells(line: &'static str) -> Option<impl Iterator<Item = &'static str>> {
-    Some(line.strip_prefix('|')?.split('|').map(str::trim))
 }
 
 /// A line that begins with bits, as `0 to 7`.

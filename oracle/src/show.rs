@@ -12,15 +12,20 @@ pub const GREATEST_PARTS: usize = 256;
 pub const COUNT_BYTES: usize = 2;
 pub const OFFSET_BYTES: usize = 4;
 
-/// What `scene-show` prints for a file. Question 23 is asked before 24.
+/// What `scene-show` prints for a file.
 pub fn answer(file: &[u8]) -> Answer {
-    if file.len() > GREATEST_FILE {
-        return refused(23);
+    match asked_parts(file) {
+        Ok(parts) => shown(printed(&parts)),
+        Err(number) => refused(number),
     }
-    let Some(parts) = parts(file) else {
-        return refused(24);
-    };
-    shown(printed(&parts))
+}
+
+/// The parts of a file, or the number by which it is refused. Question 23 is asked before 24.
+pub fn asked_parts(file: &[u8]) -> Result<Vec<&[u8]>, u8> {
+    if file.len() > GREATEST_FILE {
+        return Err(23);
+    }
+    parts(file).ok_or(24)
 }
 
 /// The length of the header of so many parts.
@@ -67,19 +72,38 @@ fn offset(bytes: &[u8; OFFSET_BYTES]) -> usize {
 /// The lines of a show. If the Rust gave no answer to a part, or a position has no rank, there are
 /// none, and that is the outcome.
 fn printed(parts: &[&[u8]]) -> Result<String, Outcome> {
+    let answers = answers(parts);
     let mut text = String::new();
-    let mut question = Question::Scene;
-    for (k, part) in parts.iter().enumerate() {
-        let answer = read(question, Input::from(*part));
-        text += &part_line(k, &answer)?;
-        if k == 0 && answer.verdict.outcome != Outcome::Read {
-            return Ok(text);
-        }
-        // An update that was not read hands back the shapes as they were.
-        question = Question::Update(answer.shapes);
+    for (k, answer) in answers.iter().enumerate() {
+        text += &part_line(k, answer)?;
     }
-    text += &position_lines(question.shapes())?;
+    // A scene that was not read has left no shapes, and so has no lines of positions.
+    if let Some(last) = answers.last() {
+        text += &position_lines(&last.shapes)?;
+    }
     Ok(text)
+}
+
+/// The answers of the parts in their order, without recording; only that of part 0 if it was not read.
+pub fn answers(parts: &[&[u8]]) -> Vec<Answer> {
+    let mut answers = Vec::new();
+    for part in parts {
+        let Some(question) = next_question(&answers) else {
+            break;
+        };
+        answers.push(read(question, Input::from(*part)));
+    }
+    answers
+}
+
+/// What is asked of the part after those with these answers; nothing if part 0 was not read.
+pub fn next_question(before: &[Answer]) -> Option<Question> {
+    let (Some(scene), Some(last)) = (before.first(), before.last()) else {
+        return Some(Question::Scene);
+    };
+    let read = scene.verdict.outcome == Outcome::Read;
+    // An update that was not read hands back the shapes as they were.
+    read.then(|| Question::Update(last.shapes.clone()))
 }
 
 fn part_line(k: usize, answer: &Answer) -> Result<String, Outcome> {

@@ -1,4 +1,4 @@
-//! Small pieces of the text lines: words, numbers, lists, hexadecimal bytes.
+//! Small pieces of the text lines: words, numbers, lists, hexadecimal bytes, cells of a table.
 use std::str::{FromStr, Split};
 
 /// What stands for an empty list.
@@ -50,6 +50,11 @@ pub fn joined(texts: impl Iterator<Item = String>, separator: &str) -> String {
         return NONE.into();
     }
     texts.join(separator)
+}
+
+/// The cells of a line of a table in a paper, as `| 3 | words |`.
+pub(crate) fn cells(line: &str) -> Option<impl Iterator<Item = &str>> {
+    Some(line.strip_prefix('|')?.split('|').map(str::trim))
 }
 
 pub fn hex(bytes: &[u8]) -> String {

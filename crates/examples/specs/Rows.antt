@@ -1,10 +1,11 @@
--- Document 01's worked examples as rows, and the one claim that all of them hold of the definitions.
+-- Document 01's worked examples as rows, with README's listings of its show, and the one claim that all of them hold of the
+-- definitions.
 use Prim.Native.Nat.{ℕ, _*_, _/_, _%_, _^_}
 use Prim.Native.String.{String}
 use mathlib.Core.Path.{_≡_}
 use mathlib.Core.List.{List, [], _∷_, _++_, map}
 use mathlib.Core.Bool.{false}
-use lib.ListN.{length}
+use lib.ListN.{length, take}
 use Rattle.rules.specs.Rule.{Rule}
 use Rattle.rules.specs.Reading.{Reading, reading}
 use Rattle.rules.specs.Derived.{escaped}
@@ -14,7 +15,9 @@ use Rattle.compression.specs.Probability.{floats}
 use Rattle.text.specs.Text.{ascii}
 use Rattle.claims.specs.Book.{Packet, packetOf, bookScene, bookFirst, bookReading, bookShapes}
 use Rattle.show.specs.Header.{fileQuestion}
-use Rattle.show.specs.Show.{showText}
+use Rattle.show.specs.Show.{packet, showText}
+use Rattle.part.specs.Part.{partListed}
+use Rattle.listings.specs.Printed.{partListing}
 
 -- an example of each kind: what is read, from the first bit on and with recording off
 pub data Example : Type 0 where
@@ -26,6 +29,8 @@ pub data Example : Type 0 where
   packetAfter : (scene : List ℕ) (before : List (List ℕ)) (bytes : List ℕ) → Example
   -- a show file
   showIn : (file : List ℕ) → Example
+  -- a part of one, listed
+  partIn : (file : List ℕ) (k : ℕ) → Example
   -- a table's probabilities at precision 32, of these patterns
   probabilitiesOf : (patterns : List ℕ) → Example
 
@@ -65,6 +70,8 @@ given (packetAfter scene before bs) =
     let shapes = bookShapes (map packetIn before) (bookFirst (packetIn scene)) in
     row (packetAfter scene before bs) (bookReading (packetIn bs) shapes) parents shapes
 given (showIn file) = record { example = showIn file; number = fileQuestion file; position = 0; fields = 0; values = showText file }
+given (partIn file k) =
+    record { example = partIn file k; number = fileQuestion file; position = 0; fields = 0; values = partListing (partListed file k (packet file k)) }
 given (probabilitiesOf xs) = row (probabilitiesOf xs) (whole (bytesOf xs) (floats 0 (length xs))) (λ _. []) tt
 
 abbrev pub AllHold : List Row → Type 0
@@ -123,6 +130,38 @@ rows =
           ∷ "part 3 read 13 fields 8"
           ∷ "position 1 parent 2 rank 2"
           ∷ "position 2 parent 0 rank 1"
+          ∷ []);
+    } ∷
+    -- its second part, listed; and its fourth part, if the file has lost its last byte
+    record {
+      example = partIn show 1;
+      number = 0;
+      position = 0;
+      fields = 0;
+      values =
+          lines
+          ("0 1 1 ancillary.scene_graph.positions[0].updated"
+          ∷ "1 1 1 ancillary.scene_graph.positions[0].parent_update"
+          ∷ "2 1 0 ancillary.scene_graph.positions[0].absolute_parent"
+          ∷ "3 6 2 ancillary.scene_graph.positions[0].parent_index"
+          ∷ "9 1 0 ancillary.scene_graph.positions[0].position_present"
+          ∷ "10 1 0 ancillary.scene_graph.positions[0].rotation_present"
+          ∷ "11 1 0 ancillary.scene_graph.positions[0].extensions_present"
+          ∷ "12 1 0 ancillary.scene_graph.positions[1].updated"
+          ∷ "refused 9 at 13: a chain of parents closes a circle"
+          ∷ []);
+    } ∷
+    record {
+      example = partIn (take 28 show) 3;
+      number = 0;
+      position = 0;
+      fields = 0;
+      values =
+          lines
+          ("0 1 1 ancillary.scene_graph.positions[0].updated"
+          ∷ "1 1 1 ancillary.scene_graph.positions[0].parent_update"
+          ∷ "2 1 0 ancillary.scene_graph.positions[0].absolute_parent"
+          ∷ "refused 3 at 3: the bits asked for are not there"
           ∷ []);
     } ∷
     -- a file of no bytes

@@ -12,6 +12,7 @@ use Rattle.bits.specs.Bits.{bitsAt}
 use Rattle.rules.specs.declared.Field.{Field}
 use Rattle.rules.specs.Rule.{Rule, done, ends, positionThen, endThen, bitsThen, skipThen, fieldThen, setEndThen, pick}
 use Rattle.rules.specs.Reading.{Reading, Input, reading, with, inside}
+use Rattle.laws.proofs.Counted.{counts-most}
 
 -- whatever words are lent
 abbrev pub off : List ℕ → ℕ → Input
@@ -46,3 +47,7 @@ free bs lent room (skipThen w k) p e n h = after (ltb (e - p) w) n room _ _ _ h 
 free bs lent room (fieldThen name start v k) p e n h =
     before (ltb n 16384) n room _ _ _ h (λ g. noted n room _ _ _ _ g (λ g. free bs lent room k p e (n + 1) g))
 free bs lent room (setEndThen x k) p e n h = before (inside (off bs lent) p x) n room _ _ _ h (λ g. free bs lent room k p x n g)
+
+-- So 81,920 words are enough for every reading.
+pub enough : {A : Type 0} (bs : List ℕ) (lent room : ℕ) (r : Rule A) (p e : ℕ) → 81920 ≤ room → reading (on bs room) r p e 0 ≡ reading (off bs lent) r p e 0
+enough bs lent room r p e h = free bs lent room r p e 0 (omega (arith, counts-most (off bs lent) r p e))

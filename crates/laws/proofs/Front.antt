@@ -1,5 +1,5 @@
 -- Law (c): the words are the entry's words with the encoded fields in front.
-use Prim.Native.Nat.{ℕ, _+_, _-_, _*_, _≤_}
+use Prim.Native.Nat.{ℕ, _+_, _*_, _≤_}
 use mathlib.Core.Path.{_≡_}
 use mathlib.Core.List.{List, _++_}
 use mathlib.Core.Bool.{true}
@@ -7,37 +7,17 @@ use native.Mathlib.Omega.{arith}
 use borrow.Author.Tests.{leb-true}
 use lib.ListN.{length, take, drop}
 use lib.Seq.{sets-eq}
-use lib.Dec.{ltb, leb}
-use Rattle.bits.specs.Bits.{bitsAt}
 use Rattle.rules.specs.declared.Field.{Field}
-use Rattle.rules.specs.Rule.{Rule, done, ends, positionThen, endThen, bitsThen, skipThen, fieldThen, setEndThen}
-use Rattle.rules.specs.Reading.{Reading, reading, inside}
+use Rattle.rules.specs.Rule.{Rule}
+use Rattle.rules.specs.Reading.{reading}
 use Rattle.rules.specs.Words.{encoded, recorded}
-use Rattle.rules.proofs.Pick.{by-pick}
 use Rattle.rules.proofs.Words.{encoded-length}
+use Rattle.laws.proofs.Counted.{counted}
 use Rattle.laws.proofs.Free.{on}
 
 -- what was counted before and is recorded now fits in the words
-abbrev Fits : {A : Type 0} → ℕ → ℕ → Reading A → Type 0
-Fits n room x = 5 * (n + length (x .fields)) ≤ room
-
 pub fits : {A : Type 0} (bs : List ℕ) (room : ℕ) (r : Rule A) (p e n : ℕ) → 5 * n ≤ room → 5 * (n + length (reading (on bs room) r p e n .fields)) ≤ room
-unfolding reading
-fits bs room (done a) p e n h = omega arith
-fits bs room (ends x) p e n h = omega arith
-fits bs room (positionThen k) p e n h = fits bs room (k p) p e n h
-fits bs room (endThen k) p e n h = fits bs room (k e) p e n h
-fits bs room (bitsThen w k) p e n h =
-    by-pick (Fits n room) (ltb (e - p) w) _ _ (λ _. omega arith) (λ _. fits bs room (k (bitsAt bs p w)) (p + w) e n h)
-fits bs room (skipThen w k) p e n h = by-pick (Fits n room) (ltb (e - p) w) _ _ (λ _. omega arith) (λ _. fits bs room k (p + w) e n h)
-fits bs room (fieldThen name start v k) p e n h =
-    by-pick (Fits n room) (ltb n 16384) _ _
-    (λ _.
-    by-pick (Fits n room) (leb (5 * n + 5) room) _ _
-    (λ q. let l = leb-true (5 * n + 5) room q in omega (arith, fits bs room k p e (n + 1) (omega arith)))
-    (λ _. omega arith))
-    (λ _. omega arith)
-fits bs room (setEndThen x k) p e n h = by-pick (Fits n room) (inside (on bs room) p x) _ _ (λ _. fits bs room k p x n h) (λ _. omega arith)
+fits bs room r p e n h = counted (on bs room) (λ n. 5 * n ≤ room) (λ n _ q. omega (arith, leb-true (5 * n + 5) room q)) r p e n h
 
 pub recorded-front : (ws : List ℕ) (n : ℕ) (fs : List Field) → 5 * (n + length fs) ≤ length ws →
     recorded true ws n fs ≡ take (5 * n) ws ++ encoded fs ++ drop (5 * (n + length fs)) ws

@@ -1,6 +1,7 @@
 pub mod Ended
 pub mod Stays
 pub mod Positions
+pub mod Counted
 pub mod Free
 pub mod Front
 pub mod Back

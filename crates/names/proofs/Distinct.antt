@@ -12,9 +12,10 @@ use Rattle.rules.specs.Name.{prefix, named}
 use Rattle.rules.specs.Rule.{pick}
 use Rattle.rules.proofs.Laws.{never, both}
 use Rattle.text.specs.Text.{ascii}
-use Rattle.names.specs.Table.{blocks, leaves, row, numberAt, greatestFirst, greatestSecond, inRange, standsIn}
+use Rattle.names.specs.Table.{blocks, leaves, numberAt, greatestFirst, greatestSecond, inRange, standsIn}
+use Rattle.text.specs.Table.{row}
 use Rattle.names.specs.NameText.{known, indexed, blockText, leafText, nameText, blockRow, leafRow, blockOf, leafOf, firstOf, secondOf, thirdOf, fourthOf}
-use Rattle.names.proofs.Rows.{every, at-row, at-number, row-past}
+use Rattle.text.proofs.Rows.{every, at-row, at-number, row-past}
 use Rattle.names.proofs.Forms.{upToBlank, closed, form, form-indexed, places, same-indices}
 
 or-elim : {P : Type 0} (a : Bool) {b : Bool} → (a || b) ≡ true → (a ≡ true → P) → (b ≡ true → P) → P

@@ -9,8 +9,8 @@ use lib.Dec.{eqb}
 use lib.ListN.{getD, drop}
 use Rattle.rules.specs.Rule.{pick}
 use Rattle.rules.proofs.Laws.{never, both}
-use Rattle.text.specs.Text.{decimal}
-use Rattle.text.proofs.Decimal.{isDigit, Digits, decimal-digits, decimal-once}
+use Rattle.text.specs.Text.{decimal, isDigit}
+use Rattle.text.proofs.Decimal.{Digits, decimal-digits, decimal-once}
 use Rattle.names.specs.NameText.{character, indexed}
 use Rattle.names.proofs.Characters.{character-bracket, character-plain}
 

@@ -1,4 +1,3 @@
-pub mod Rows
 pub mod Characters
 pub mod Lengths
 pub mod Questions

@@ -7,7 +7,7 @@ use mathlib.Core.List.{List, [], _∷_}
 use mathlib.Core.Bool.{Bool, _&&_, _||_}
 use lib.Dec.{eqb, leb}
 use lib.ListN.{getD}
-use Rattle.text.specs.Text.{ascii, digit}
+use Rattle.text.specs.Text.{digit}
 
 unfoldable pub blocks : List String
 blocks =
@@ -143,10 +143,6 @@ leaves =
     ∷ "sizes_minus_one[]                             0581 0000 9  "
     ∷ "encoded[]                                     0007 0000 6  "
     ∷ []
-
--- the row of a number, the empty one if the table has none
-unfoldable pub row : List String → ℕ → List ℕ
-row table n = ascii (getD table n (getD table 0 ""))
 
 -- the four digits in the columns from `k` on; a blank counts as 0
 abbrev pub digitAt : List ℕ → ℕ → ℕ

@@ -14,7 +14,7 @@ ghost use Rattle.names.specs.NameText.{known, character, indexed, blockT
 const INDICES: u64 = 8192;
 
 // Whether a word is known: its leaf stands in its block, and all indices are in range.
-fn known(word: u64) -> bool
+pub fn known(word: u64) -> bool
     ensures { λ r. ⌜ r ≡ known word ⌝ }
 {
     let block = table::block_row(word);
@@ -93,7 +93,8 @@ fn put_leaf(out: &mut [u8], at: usize, word: u64) -> usize
     )
 }
 
-fn put_name(out: &mut [u8], at: usize, word: u64) -> usize
+// Puts the text of a word.
+pub fn put_name(out: &mut [u8], at: usize, word: u64) -> usize
     requires { ⌜ at + length (nameText word) ≤ length (now out) ⌝ }
     ensures { λ r. ⌜ Put (now (out .entry)) at (nameText word) r (now (out .exit)) ⌝ }
 {

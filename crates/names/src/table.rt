@@ -2,10 +2,8 @@
 // has the text, in which `[]` is the place of an index and which ends at a blank; from 46 and from 51 on the greatest values of
 // its two indices, 0 where the text has no place for one; from 56 on the blocks that a leaf stands in.
 ghost use mathlib.Core.Path.{_≡_};
-ghost use Prim.Native.Nat.{_+_, _*_, _≤_, _<_};
-ghost use lib.Dec.{leb};
-ghost use lib.ListN.{length, take, drop};
-ghost use Rattle.rules.specs.Rule.{pick};
+ghost use Prim.Native.Nat.{_+_, _≤_};
+ghost use lib.ListN.{length};
 ghost use Rattle.names.specs.Table.{numberAt, inRange, standsIn};
 ghost use Rattle.names.specs.NameText.{blockRow, leafRow};
 
@@ -142,41 +140,18 @@ const LEAVES: [u8; 6903] = *b"\
     encoded[]                                     0007 0000 6  \
 ";
 
-// Row `n` of a table.
-fn row(table: &[u8], n: usize) -> [u8; 59]
-    requires { ⌜ 59 * n + 59 ≤ length (now table) ⌝ }
-    ensures { λ r. ⌜ r ≡ take 59 (drop (59 * n) (now (table .entry))) ⌝ }
-{
-    let start = 59 * n;
-    let mut row = [0u8; 59];
-    bytes::copy(&table[start..start + 59], &mut row);
-    row
-}
-
-// The row of a number, the empty one if the table has none.
-fn row_or_empty(table: &[u8], n: usize) -> [u8; 59]
-    requires { ⌜ 59 ≤ length (now table) ⌝ }
-    requires { ⌜ n < 256 ⌝ }
-    ensures { λ r. ⌜ r ≡ take 59 (drop (pick (leb (59 * n + 59) (length (now (table .entry)))) (59 * n) 0) (now (table .entry))) ⌝ }
-{
-    if 59 * n + 59 <= table.len() {
-        return row(table, n);
-    }
-    row(table, 0)
-}
-
 // The row of a word's block.
 pub fn block_row(word: u64) -> [u8; 59]
     ensures { λ r. ⌜ r ≡ blockRow word ⌝ }
 {
-    row_or_empty(&BLOCKS, (word / 256 % 16) as usize)
+    text::table::row_or_first(&BLOCKS, (word / 256 % 16) as usize)
 }
 
 // The row of its leaf.
 pub fn leaf_row(word: u64) -> [u8; 59]
     ensures { λ r. ⌜ r ≡ leafRow word ⌝ }
 {
-    row_or_empty(&LEAVES, (word % 256) as usize)
+    text::table::row_or_first(&LEAVES, (word % 256) as usize)
 }
 
 // The four digits in the columns from `k` on; a blank counts as 0.

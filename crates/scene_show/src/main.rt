@@ -1,4 +1,5 @@
 // scene-show: reads a show file from standard input, and prints its text.
+use libc::STDERR_FILENO;
 use libc::STDOUT_FILENO;
 ghost use lib.ListN.{length};
 ghost use mathlib.Core.Path.{_≡_};
@@ -21,6 +22,10 @@ fn print(file: &[u8]) {
 }
 
 fn main() {
+    if 1 < os::arg_count() {
+        io::write_all(STDERR_FILENO, b"usage: scene-show < FILE\n");
+        return;
+    }
     let mut file = room();
     let read = input::read_input(&mut file);
     if read.failed {

@@ -1,8 +1,7 @@
 -- The bytes that are lent for the text are enough for every file.
 use Prim.Native.Nat.{ℕ, zero, suc, _+_, _-_, _*_, _≤_}
-use Prim.Native.String.{String}
 use mathlib.Core.Path.{_≡_, refl, sym, ap, _∙_}
-use mathlib.Core.List.{List, [], _∷_, _++_}
+use mathlib.Core.List.{List, [], _∷_}
 use mathlib.Core.Bool.{Bool, true, false}
 use native.Mathlib.Omega.{arith}
 use borrow.Author.Tests.{eqb-true, ne-eqb}
@@ -18,28 +17,12 @@ use Rattle.position.specs.declared.PositionSyntax.{PositionSyntax}
 use Rattle.validation.specs.Rank.{parents, parentOf, rankOf}
 use Rattle.claims.specs.Book.{Packet, Given, bookScene, bookFirst, bookAnswers, bookShapes}
 use Rattle.claims.proofs.Book.{shapes-many, answers-many, first-many}
-use Rattle.text.specs.Text.{ascii, decimal, Put}
-use Rattle.text.proofs.Decimal.{decimal-most}
+use Rattle.text.specs.Text.{ascii, line, Put}
+use Rattle.text.proofs.Lines.{widest, line-most}
 use Rattle.text.proofs.Puts.{put-long}
 use Rattle.show.specs.Header.{HeaderSound, partCount, isSound, fileQuestion}
-use Rattle.show.specs.Show.{line, told, partLine, partLines, positionLine, positionLines, allPositions, packet, packets, updatesText, restText, partsText, showText, ShowAnswered}
+use Rattle.show.specs.Show.{told, partLine, partLines, positionLine, positionLines, allPositions, packet, packets, updatesText, restText, partsText, showText, ShowAnswered}
 use Rattle.show.proofs.Sound.{sound-if, question-met}
-
--- a line is no longer than its words and 20 digits for each number
-widest : List (String × ℕ) → ℕ
-widest [] = 1
-widest (x ∷ xs) = length (ascii (x .0)) + 20 + widest xs
-
-line-most : (xs : List (String × ℕ)) → length (line xs) ≤ widest xs
-unfolding line widest
-line-most [] = omega arith
-line-most (x ∷ xs) =
-    let word = ascii (x .0) in
-    let a = length-append (word ++ decimal (x .1)) (line xs) in
-    let b = length-append word (decimal (x .1)) in
-    let c = decimal-most (x .1) in
-    let d = line-most xs in
-    omega arith
 
 -- no line is longer than 84 bytes
 told-most : (k : ℕ) (o : Outcome) (position fields : ℕ) → length (line (("part ", k) ∷ told o position fields)) ≤ 84

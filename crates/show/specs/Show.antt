@@ -16,13 +16,8 @@ use Rattle.position.specs.declared.PositionSyntax.{PositionSyntax}
 use Rattle.validation.specs.Rank.{parents, parentOf, rankOf}
 use Rattle.claims.specs.Book.{Packet, packetOf, Given, bookScene, bookFirst, bookAnswers, bookShapes}
 use Rattle.text.specs.declared.TextAnswer.{TextAnswer}
-use Rattle.text.specs.Text.{ascii, decimal, Put}
+use Rattle.text.specs.Text.{line, Put}
 use Rattle.show.specs.Header.{partCount, partOf, fileQuestion}
-
--- a line: words, each with the number after it
-unfoldable pub line : List (String × ℕ) → List ℕ
-line [] = 10 ∷ []
-line (x ∷ xs) = (ascii (x .0) ++ decimal (x .1)) ++ line xs
 
 -- what is told of a part: how it ended
 abbrev pub told : Outcome → ℕ → ℕ → List (String × ℕ)

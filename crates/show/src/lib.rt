@@ -1,5 +1,5 @@
 // A show file, and the text that `scene-show` prints of it.
-mod header;
+pub mod header;
 mod lines;
 
 use position::PositionSyntax;
@@ -7,42 +7,46 @@ use rules::Outcome;
 use scene::SceneAnswer;
 use text::TextAnswer;
 use update::UpdateAnswer;
-ghost use mathlib.Core.List.{[]};
-ghost use mathlib.Core.Bool.{false};
 ghost use Prim.Native.Nat.{_+_, _-_, _≤_, _<_};
 ghost use lib.ListN.{length, take};
 ghost use Rattle.scene.specs.Scene.{SceneAnswered};
 ghost use Rattle.update.specs.Update.{UpdateAnswered};
-ghost use Rattle.claims.specs.Book.{bookScene, bookReading};
+ghost use Rattle.claims.specs.Book.{packetOf, bookScene, bookReading};
 ghost use Rattle.text.specs.Text.{Put};
-ghost use Rattle.show.specs.Header.{HeaderSound, partCount};
-ghost use Rattle.show.specs.Show.{positionLines, allPositions, packet, packets, updatesText, restText, partsText, ShowAnswered};
+ghost use Rattle.show.specs.Header.{HeaderSound, partCount, partOf};
+ghost use Rattle.show.specs.Show.{positionLines, allPositions, packets, updatesText, restText, partsText, ShowAnswered};
 
 // The bytes that are lent for the text: enough for every file.
 pub const TEXT: usize = 32768;
 
-// Part 0, a scene.
-fn scene_part(file: &[u8]) -> SceneAnswer
+// Part 0, a scene, from its bit `offset` on.
+pub fn scene_part(file: &[u8], offset: usize, recording: bool, words: &mut [u64]) -> SceneAnswer
     requires { ⌜ HeaderSound (now file) ⌝ }
-    ensures { λ r. ⌜ SceneAnswered (bookScene (packet (now (file .entry)) 0)) false [] r [] ⌝ }
+    ensures { λ r. ⌜ SceneAnswered (bookScene (packetOf (partOf (now (file .entry)) 0) offset recording (now (words .entry)))) recording (now (words .entry)) r (now (words .exit)) ⌝ }
 {
     let start = header::offset_of(file, 0);
     let end = header::end_of(file, 0);
-    let mut words = [0u64; 0];
-    scene::read_scene(&file[start..end], 0, false, &mut words)
+    scene::read_scene(&file[start..end], offset, recording, words)
 }
 
-// Part `k`, an update.
-fn update_part(file: &[u8], k: usize, shapes: [PositionSyntax; 63], count: usize) -> UpdateAnswer
+// Part `k`, an update, from its bit `offset` on.
+pub fn update_part(
+    file: &[u8],
+    k: usize,
+    offset: usize,
+    recording: bool,
+    words: &mut [u64],
+    shapes: [PositionSyntax; 63],
+    count: usize,
+) -> UpdateAnswer
     requires { ⌜ HeaderSound (now file) ⌝ }
     requires { ⌜ k < partCount (now file) ⌝ }
     requires { ⌜ count ≤ 63 ⌝ }
-    ensures { λ r. ⌜ UpdateAnswered (bookReading (packet (now (file .entry)) k) (take count shapes)) count shapes false [] r [] ⌝ }
+    ensures { λ r. ⌜ UpdateAnswered (bookReading (packetOf (partOf (now (file .entry)) k) offset recording (now (words .entry))) (take count shapes)) count shapes recording (now (words .entry)) r (now (words .exit)) ⌝ }
 {
     let start = header::offset_of(file, k);
     let end = header::end_of(file, k);
-    let mut words = [0u64; 0];
-    update::graph_update(&file[start..end], 0, false, &mut words, shapes, count)
+    update::graph_update(&file[start..end], offset, recording, words, shapes, count)
 }
 
 // Puts a line for each position.
@@ -90,7 +94,8 @@ fn put_updates(
     let mut to = at;
     let mut k = 1;
     while k < parts {
-        let a = update_part(file, k, next, count);
+        let mut words = [0u64; 0];
+        let a = update_part(file, k, 0, false, &mut words, next, count);
         let answer = a.answer;
         let left = a.shapes;
         to = lines::put_part(out, to, k, answer);
@@ -125,7 +130,8 @@ fn put_parts(file: &[u8], out: &mut [u8]) -> usize
     requires { ⌜ 0 + length (partsText (now file)) ≤ length (now out) ⌝ }
     ensures { λ r. ⌜ Put (now (out .entry)) 0 (partsText (now (file .entry))) r (now (out .exit)) ⌝ }
 {
-    let a = scene_part(file);
+    let mut words = [0u64; 0];
+    let a = scene_part(file, 0, false, &mut words);
     let answer = a.answer;
     let next = lines::put_part(out, 0, 0, answer);
     put_rest(file, out, next, a)

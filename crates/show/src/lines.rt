@@ -1,29 +1,11 @@
 // The lines of the printed text.
 use rules::Answer;
 use rules::Outcome;
-ghost use mathlib.Core.List.{[], _∷_, _++_};
+ghost use mathlib.Core.List.{[], _∷_};
 ghost use Prim.Native.Nat.{_+_, _≤_};
 ghost use lib.ListN.{length};
-ghost use Rattle.text.specs.Text.{decimal, Put};
-ghost use Rattle.show.specs.Show.{line, told, partLine, positionLine};
-
-// Puts the last word of a line, with the number after it, and ends the line.
-fn put_last(out: &mut [u8], at: usize, word: &[u8], n: u64) -> usize
-    requires { ⌜ at + length ((now word ++ decimal n) ++ (10 ∷ [])) ≤ length (now out) ⌝ }
-    ensures { λ r. ⌜ Put (now (out .entry)) at ((now (word .entry) ++ decimal n) ++ (10 ∷ [])) r (now (out .exit)) ⌝ }
-{
-    let end = text::put_number(out, at, word, n);
-    text::put(out, end, b"\n")
-}
-
-// Puts the last two.
-fn put_two(out: &mut [u8], at: usize, first: &[u8], m: u64, last: &[u8], n: u64) -> usize
-    requires { ⌜ at + length ((now first ++ decimal m) ++ ((now last ++ decimal n) ++ (10 ∷ []))) ≤ length (now out) ⌝ }
-    ensures { λ r. ⌜ Put (now (out .entry)) at ((now (first .entry) ++ decimal m) ++ ((now (last .entry) ++ decimal n) ++ (10 ∷ []))) r (now (out .exit)) ⌝ }
-{
-    let next = text::put_number(out, at, first, m);
-    put_last(out, next, last, n)
-}
+ghost use Rattle.text.specs.Text.{line, Put};
+ghost use Rattle.show.specs.Show.{told, partLine, positionLine};
 
 // Puts how a part ended.
 fn put_told(out: &mut [u8], at: usize, answer: Answer) -> usize
@@ -33,7 +15,7 @@ fn put_told(out: &mut [u8], at: usize, answer: Answer) -> usize
     let position = answer.position as u64;
     let outcome = answer.outcome;
     match outcome {
-        Outcome::Read => put_two(
+        Outcome::Read => text::put_two(
             out,
             at,
             b" read ",
@@ -41,8 +23,8 @@ fn put_told(out: &mut [u8], at: usize, answer: Answer) -> usize
             b" fields ",
             answer.fields as u64,
         ),
-        Outcome::Refused(n) => put_two(out, at, b" refused ", n as u64, b" at ", position),
-        Outcome::Stopped(n) => put_two(out, at, b" stopped ", n as u64, b" at ", position),
+        Outcome::Refused(n) => text::put_two(out, at, b" refused ", n as u64, b" at ", position),
+        Outcome::Stopped(n) => text::put_two(out, at, b" stopped ", n as u64, b" at ", position),
     }
 }
 
@@ -61,7 +43,7 @@ pub fn put_position(out: &mut [u8], at: usize, i: usize, parent: usize, rank: us
     ensures { λ r. ⌜ Put (now (out .entry)) at (positionLine i parent rank) r (now (out .exit)) ⌝ }
 {
     let next = text::put_number(out, at, b"position ", i as u64);
-    put_two(
+    text::put_two(
         out,
         next,
         b" parent ",
@@ -76,5 +58,5 @@ pub fn put_refused(out: &mut [u8], at: usize, number: u16) -> usize
     requires { ⌜ at + length (line (("file refused ", number) ∷ [])) ≤ length (now out) ⌝ }
     ensures { λ r. ⌜ Put (now (out .entry)) at (line (("file refused ", number) ∷ [])) r (now (out .exit)) ⌝ }
 {
-    put_last(out, at, b"file refused ", number as u64)
+    text::put_last(out, at, b"file refused ", number as u64)
 }

@@ -1,17 +1,17 @@
 -- A number's decimal digits: they are those that the library `io` writes, and no more than the number needs.
 use mathlib.Core.Path.{_≡_, refl, sym, ap, ap₂, _∙_, subst}
-use mathlib.Core.Bool.{Bool, true, false, _&&_}
+use mathlib.Core.Bool.{Bool, true, false}
 use mathlib.Core.List.{List, [], _∷_, _++_}
 use Prim.Native.Nat.{ℕ, zero, suc, _+_, _-_, _*_, _/_, _%_, _^_, _≤_, _<_}
 use native.Mathlib.Nat.{pow-suc, pow-le-pow-right}
 use native.Mathlib.Omega.{arith}
 use borrow.Author.Tests.{ltb-true, ltb-false, lt-ltb, le-leb}
-use lib.Dec.{ltb, leb, lit<}
+use lib.Dec.{ltb, lit<}
 use lib.ListN.{length, length-append}
 use Rattle.io.specs.Digits.{digits, glyph, Fewest}
 use Rattle.rules.specs.Rule.{pick}
 use Rattle.rules.proofs.Pick.{by-pick}
-use Rattle.text.specs.Text.{digit, decimalWithin, decimal}
+use Rattle.text.specs.Text.{digit, decimalWithin, decimal, isDigit, valueAfter}
 
 -- 10 to the power of one more
 more : (k : ℕ) → (10 ^ suc k ≡ 10 * 10 ^ k) × (1 ≤ 10 ^ k)
@@ -100,10 +100,6 @@ unfolding decimal
 decimal-most n = most 20 n
 
 -- the number is had back from its digits: no two numbers of 64 bits have the same
-valueAfter : ℕ → List ℕ → ℕ
-valueAfter v [] = v
-valueAfter v (d ∷ ds) = valueAfter (10 * v + (d - 48)) ds
-
 value-last : (v d : ℕ) (ds : List ℕ) → valueAfter v (ds ++ (d ∷ [])) ≡ 10 * valueAfter v ds + (d - 48)
 unfolding valueAfter
 value-last v d [] = refl
@@ -121,14 +117,14 @@ value-within (suc f) n h =
     front true e again = let z = ltb-true n 10 e in omega arith
     front false e again = again
 
-pub decimal-once : (m n : ℕ) → m < 2 ^ 64 → n < 2 ^ 64 → decimal m ≡ decimal n → m ≡ n
+pub decimal-value : (n : ℕ) → n < 2 ^ 64 → valueAfter 0 (decimal n) ≡ n
 unfolding decimal
-decimal-once m n h k e = sym (value-within 20 m (omega arith)) ∙ ap (valueAfter 0) e ∙ value-within 20 n (omega arith)
+decimal-value n h = value-within 20 n (omega arith)
+
+pub decimal-once : (m n : ℕ) → m < 2 ^ 64 → n < 2 ^ 64 → decimal m ≡ decimal n → m ≡ n
+decimal-once m n h k e = sym (decimal-value m h) ∙ ap (valueAfter 0) e ∙ decimal-value n k
 
 -- each of them is a digit
-abbrev pub isDigit : ℕ → Bool
-isDigit c = leb 48 c && leb c 57
-
 abbrev pub Digits : List ℕ → Type 0
 Digits [] = Unit {0}
 Digits (c ∷ cs) = (isDigit c ≡ true) × Digits cs

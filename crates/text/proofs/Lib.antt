@@ -1,2 +1,5 @@
 pub mod Decimal
 pub mod Puts
+pub mod Rows
+pub mod Lines
+pub mod Digits

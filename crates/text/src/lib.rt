@@ -1,7 +1,10 @@
 // Text put into bytes that the caller lends, at a place where there is room for it.
+pub mod number;
+pub mod table;
+
 use rules::Outcome;
 ghost use Prim.Native.Nat.{_+_, _≤_};
-ghost use mathlib.Core.List.{_++_};
+ghost use mathlib.Core.List.{[], _∷_, _++_};
 ghost use lib.ListN.{length};
 ghost use Rattle.text.specs.Text.{decimal, Put};
 
@@ -38,4 +41,22 @@ pub fn put_number(out: &mut [u8], at: usize, word: &[u8], n: u64) -> usize
 {
     let number = put(out, at, word);
     put_decimal(out, number, n)
+}
+
+// Puts the last word of a line, with the number after it, and ends the line.
+pub fn put_last(out: &mut [u8], at: usize, word: &[u8], n: u64) -> usize
+    requires { ⌜ at + length ((now word ++ decimal n) ++ (10 ∷ [])) ≤ length (now out) ⌝ }
+    ensures { λ r. ⌜ Put (now (out .entry)) at ((now (word .entry) ++ decimal n) ++ (10 ∷ [])) r (now (out .exit)) ⌝ }
+{
+    let end = put_number(out, at, word, n);
+    put(out, end, b"\n")
+}
+
+// Puts the last two.
+pub fn put_two(out: &mut [u8], at: usize, first: &[u8], m: u64, last: &[u8], n: u64) -> usize
+    requires { ⌜ at + length ((now first ++ decimal m) ++ ((now last ++ decimal n) ++ (10 ∷ []))) ≤ length (now out) ⌝ }
+    ensures { λ r. ⌜ Put (now (out .entry)) at ((now (first .entry) ++ decimal m) ++ ((now (last .entry) ++ decimal n) ++ (10 ∷ []))) r (now (out .exit)) ⌝ }
+{
+    let next = put_number(out, at, first, m);
+    put_last(out, next, last, n)
 }

@@ -21,19 +21,24 @@ part-count-requires c κs = search needs
 loop-holds : tie.Need-loop-holds Inv-loop μ-loop
 loop-holds c = all-left
 
+slice-aggregate-update-part : tie.Need-slice-aggregate-update-part Inv-loop μ-loop
+slice-aggregate-update-part c = search needs
+
 update-part-requires : tie.Need-update-part-requires Inv-loop μ-loop
 update-part-requires c κs =
-    let counted = c .before .before in
+    let at-test = c .before in
+    let counted = at-test .before .before in
     let given = counted .before .before .before in
-    (given .pre .0, (rw (← counted .part-count .ensures) (c .loop-test .taken), given .pre .1 .0))
+    (given .pre .0, (rw (← counted .part-count .ensures) (at-test .loop-test .taken), given .pre .1 .0))
 
 put-part-requires : tie.Need-put-part-requires Inv-loop μ-loop
 put-part-requires c κs =
-    let updated = c .before .before .before in
-    let at-loop = updated .before .before in
+    let updated = c .before .before .before .before in
+    let at-test = updated .before .before in
+    let at-loop = at-test .before in
     let given = at-loop .before .before .before .before in
     let answered = updated .update-part .ensures .answered in
-    let here = update-more _ _ _ (take (given .args .count) (at-loop .loop .next)) (updated .before .loop-test .taken) (answered .answer) (answered .value) in
+    let here = update-more _ _ _ (take (given .args .count) (at-loop .loop .next)) (at-test .loop-test .taken) (answered .answer) (answered .value) in
     room-left (partLine _ _) _ (rw here at (at-loop .loop .inv)) (rw (← at-loop .before .part-count .ensures) at (given .pre .1 .1))
 
 add-k : tie.Need-add-k Inv-loop μ-loop
@@ -44,11 +49,12 @@ loop-less c = search needs
 
 loop-again : tie.Need-loop-again Inv-loop μ-loop
 loop-again c =
-    let updated = c .before .before .before .before .before .before in
-    let at-loop = updated .before .before in
+    let updated = c .before .before .before .before .before .before .before in
+    let at-test = updated .before .before in
+    let at-loop = at-test .before in
     let given = at-loop .before .before .before .before in
     let answered = updated .update-part .ensures .answered in
-    let here = update-more _ _ _ (take (given .args .count) (at-loop .loop .next)) (updated .before .loop-test .taken) (answered .answer) (answered .value) in
+    let here = update-more _ _ _ (take (given .args .count) (at-loop .loop .next)) (at-test .loop-test .taken) (answered .answer) (answered .value) in
     less-left (rw here at (at-loop .loop .inv)) (c .before .before .put-part .ensures)
 
 put-shapes-requires : tie.Need-put-shapes-requires Inv-loop μ-loop
@@ -76,6 +82,7 @@ put-updates-spec =
     μ-loop
     part-count-requires
     loop-holds
+    slice-aggregate-update-part
     update-part-requires
     put-part-requires
     add-k

@@ -11,25 +11,30 @@ end-of-requires : tie.Need-end-of-requires
 end-of-requires c κs = search needs
 
 sub-read-scene : tie.Need-sub-read-scene
-sub-read-scene c = part-start _ (c .before .before .before .pre) 0 (c .before .before .before .pre .some) (c .before .offset-of .ensures) (c .end-of .ensures)
+sub-read-scene c =
+    let sound = c .before .before .before .before .pre in
+    part-start _ sound 0 (sound .some) (c .before .offset-of .ensures) (c .end-of .ensures)
 
 part-read-scene-start : tie.Need-part-read-scene-start
 part-read-scene-start c = sub-read-scene c
 
 part-read-scene-end : tie.Need-part-read-scene-end
-part-read-scene-end c = part-end _ (c .before .before .before .pre) 0 (c .before .before .before .pre .some) (c .before .offset-of .ensures) (c .end-of .ensures)
-
-slice-aggregate-read-scene : tie.Need-slice-aggregate-read-scene
-slice-aggregate-read-scene c = search needs
+part-read-scene-end c =
+    let sound = c .before .before .before .before .pre in
+    part-end _ sound 0 (sound .some) (c .before .offset-of .ensures) (c .end-of .ensures)
 
 read-scene-requires : tie.Need-read-scene-requires
 read-scene-requires c κs = search needs
 
+same-length : tie.Need-same-length
+same-length c = search needs
+
 returns : tie.Need-returns
 returns c =
-    let ended = c .before .before .before .before in
-    let given = ended .before .before .before in
-    scene-answers _ (part-is _ (given .pre) 0 (given .pre .some) (ended .before .offset-of .ensures) (ended .end-of .ensures)) (c .before .read-scene .ensures)
+    let ran = c .before .before in
+    let ended = ran .before .before .before in
+    let sound = ended .before .before .before .before .pre in
+    scene-answers _ _ _ _ (part-is _ sound 0 (sound .some) (ended .before .offset-of .ensures) (ended .end-of .ensures)) (ran .read-scene .ensures)
 
 pub scene-part-spec : {M : Type 1} → statement M
 scene-part-spec =
@@ -40,6 +45,6 @@ scene-part-spec =
     sub-read-scene
     part-read-scene-start
     part-read-scene-end
-    slice-aggregate-read-scene
     read-scene-requires
+    same-length
     returns)

@@ -7,6 +7,9 @@ use borrow.Author.Needs.{needs}
 use Rattle.show.proofs.update_part.Statement.{statement}
 use Rattle.show.proofs.update_part.Tie as tie
 
+long : (c : tie.Start) → length (c .args .shapes) ≡ 63
+long c = search needs
+
 offset-of-requires : tie.Need-offset-of-requires
 offset-of-requires c κs = search needs
 
@@ -14,27 +17,31 @@ end-of-requires : tie.Need-end-of-requires
 end-of-requires c κs = search needs
 
 sub-graph-update : tie.Need-sub-graph-update
-sub-graph-update c = let pre = c .before .before .before .pre in part-start _ (pre .0) _ (pre .1 .0) (c .before .offset-of .ensures) (c .end-of .ensures)
+sub-graph-update c =
+    let pre = c .before .before .before .before .pre in
+    part-start _ (pre .0) _ (pre .1 .0) (c .before .offset-of .ensures) (c .end-of .ensures)
 
 part-graph-update-start : tie.Need-part-graph-update-start
 part-graph-update-start c = sub-graph-update c
 
 part-graph-update-end : tie.Need-part-graph-update-end
-part-graph-update-end c = let pre = c .before .before .before .pre in part-end _ (pre .0) _ (pre .1 .0) (c .before .offset-of .ensures) (c .end-of .ensures)
-
-slice-aggregate-graph-update : tie.Need-slice-aggregate-graph-update
-slice-aggregate-graph-update c = search needs
+part-graph-update-end c =
+    let pre = c .before .before .before .before .pre in
+    part-end _ (pre .0) _ (pre .1 .0) (c .before .offset-of .ensures) (c .end-of .ensures)
 
 graph-update-requires : tie.Need-graph-update-requires
 graph-update-requires c κs = search needs
 
+same-length : tie.Need-same-length
+same-length c = search needs
+
 returns : tie.Need-returns
 returns c =
-    let ended = c .before .before .before .before in
-    let given = ended .before .before .before in
-    let long : length (given .args .shapes) ≡ 63 = search needs in
+    let ran = c .before .before in
+    let ended = ran .before .before .before in
+    let given = ended .before .before .before .before in
     let part = part-is _ (given .pre .0) _ (given .pre .1 .0) (ended .before .offset-of .ensures) (ended .end-of .ensures) in
-    update-answers _ _ _ part (omega (arith, given .pre .1 .1)) (c .before .graph-update .ensures)
+    update-answers _ _ _ _ _ _ part (omega (arith, long given, given .pre .1 .1)) (ran .graph-update .ensures)
 
 pub update-part-spec : {M : Type 1} → statement M
 update-part-spec =
@@ -45,6 +52,6 @@ update-part-spec =
     sub-graph-update
     part-graph-update-start
     part-graph-update-end
-    slice-aggregate-graph-update
     graph-update-requires
+    same-length
     returns)

@@ -1,6 +1,6 @@
 use Rattle.text.proofs.Puts.{puts}
-use Rattle.text.specs.Text.{ascii}
-use Rattle.show.specs.Show.{line, partLine}
+use Rattle.text.specs.Text.{ascii, line}
+use Rattle.show.specs.Show.{partLine}
 use borrow.Author.Needs.{needs}
 use Rattle.show.proofs.lines.put_part.Statement.{statement}
 use Rattle.show.proofs.lines.put_part.Tie as tie

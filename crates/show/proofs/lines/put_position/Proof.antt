@@ -1,6 +1,6 @@
 use Rattle.text.proofs.Puts.{puts}
-use Rattle.text.specs.Text.{ascii}
-use Rattle.show.specs.Show.{line, positionLine}
+use Rattle.text.specs.Text.{ascii, line}
+use Rattle.show.specs.Show.{positionLine}
 use borrow.Author.Needs.{needs}
 use Rattle.show.proofs.lines.put_position.Statement.{statement}
 use Rattle.show.proofs.lines.put_position.Tie as tie
