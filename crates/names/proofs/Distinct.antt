@@ -1,5 +1,5 @@
 -- Two known words have different texts.
-use Prim.Native.Nat.{ℕ, suc, _+_, _*_, _/_, _^_, _≤_, _<_}
+use Prim.Native.Nat.{ℕ, _+_, _*_, _/_, _^_, _≤_, _<_}
 use Prim.Native.String.{String}
 use mathlib.Core.Path.{_≡_, refl, sym, ap, ap₂, _∙_}
 use mathlib.Core.List.{List, [], _∷_, _++_, append-assoc, append-nil}
@@ -12,10 +12,10 @@ use Rattle.rules.specs.Name.{prefix, named}
 use Rattle.rules.specs.Rule.{pick}
 use Rattle.rules.proofs.Laws.{never, both}
 use Rattle.text.specs.Text.{ascii}
-use Rattle.names.specs.Table.{blocks, leaves, numberAt, greatestFirst, greatestSecond, inRange, standsIn}
 use Rattle.text.specs.Table.{row}
+use Rattle.names.specs.Table.{blocks, leaves, numberAt, greatestFirst, greatestSecond, inRange, standsIn}
 use Rattle.names.specs.NameText.{known, indexed, blockText, leafText, nameText, blockRow, leafRow, blockOf, leafOf, firstOf, secondOf, thirdOf, fourthOf}
-use Rattle.text.proofs.Rows.{every, at-row, at-number, row-past}
+use Rattle.text.proofs.Rows.{every, at-row, at-number, row-past, lastRow}
 use Rattle.names.proofs.Forms.{upToBlank, closed, form, form-indexed, places, same-indices}
 
 or-elim : {P : Type 0} (a : Bool) {b : Bool} → (a || b) ≡ true → (a ≡ true → P) → (b ≡ true → P) → P
@@ -33,11 +33,6 @@ blocks-sound = refl
 leaves-sound : every (λ _. isSound) 0 leaves ≡ true
 unfolding leaves ascii
 leaves-sound = refl
-
--- The number of the last row that passes a test.
-abbrev lastRow : (List ℕ → Bool) → ℕ → ℕ → List String → ℕ
-lastRow f n found [] = found
-lastRow f n found (s ∷ ss) = lastRow f (suc n) (pick (f (ascii s)) n found) ss
 
 abbrev beginsWith : List ℕ → List ℕ → Bool
 beginsWith xs [] = true

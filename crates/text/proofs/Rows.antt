@@ -47,6 +47,11 @@ at-row f table n t some = go (leb (suc n) (length table)) refl
     go true e = at-place (λ _. f) 0 table n _ t (leb-true (suc n) (length table) e)
     go false e = rw (row-past table n (let z = leb-false (suc n) (length table) e in omega arith)) (at-place (λ _. f) 0 table 0 "" t some)
 
+-- the number of the last row that passes a test, or `found`
+abbrev pub lastRow : (List ℕ → Bool) → ℕ → ℕ → List String → ℕ
+lastRow f n found [] = found
+lastRow f n found (s ∷ ss) = lastRow f (suc n) (pick (f (ascii s)) n found) ss
+
 -- the rows one after the other, each of 59 bytes
 unfoldable pub rowBytes : List String → List ℕ
 rowBytes [] = []
