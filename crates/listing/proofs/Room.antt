@@ -10,9 +10,10 @@ use Rattle.rules.specs.declared.Answer.{Answer}
 use Rattle.rules.specs.declared.Field.{Field}
 use Rattle.rules.specs.declared.FieldValue.{FieldValue}
 use Rattle.rules.specs.declared.FieldValue.the-variants.{Flag, Number, Bits, Bytes}
+use Rattle.rules.specs.declared.Found.{Found}
 use Rattle.rules.specs.declared.Outcome.{Outcome}
 use Rattle.rules.specs.declared.Outcome.the-variants.{Read, Refused, Stopped}
-use Rattle.rules.specs.Words.{numberOf}
+use Rattle.rules.specs.Words.{numberOf, fieldAt}
 use Rattle.text.specs.Text.{ascii, decimal, line, Put}
 use Rattle.text.proofs.Decimal.{decimal-most}
 use Rattle.text.proofs.Lines.{widest, line-most}
@@ -21,7 +22,7 @@ use Rattle.names.specs.NameText.{known, nameText}
 use Rattle.names.proofs.Lengths.{name-short, known-small}
 use Rattle.numbers.specs.Meaning.{meaning}
 use Rattle.numbers.proofs.Lengths.{meaning-most}
-use Rattle.listing.specs.Listing.{newline, unit, placeText, valueText, fieldLine, endLine, outcomeText, outcomeLine, Lined}
+use Rattle.listing.specs.Listing.{newline, unit, placeText, valueText, fieldLine, endLine, outcomeText, outcomeLine, foundLine, lineAt, Lined}
 
 -- a text, and one after it
 both-most : (a b : List ℕ) {m n : ℕ} → length a ≤ m → length b ≤ n → length (a ++ b) ≤ m + n
@@ -73,3 +74,9 @@ lined most long p = record { put = p; room = omega (arith, p .place, put-long p)
 -- no line needs none
 pub no-line : {before : List ℕ} → Lined before [] 0 before
 no-line = record { put = put-none; room = omega arith }
+
+-- and the line of what was found in the words is that of their field
+pub line-of-found : (ws : List ℕ) (i : ℕ) {found : Found} {before after : List ℕ} {to : ℕ} → found ≡ fieldAt ws i → Lined before (foundLine found) to after →
+    Lined before (lineAt ws i) to after
+unfolding lineAt
+line-of-found ws i e l = rw (← e) l

@@ -1,6 +1,5 @@
 use borrow.Author.Needs.{needs}
-use Rattle.listing.specs.Listing.{lineAt}
-use Rattle.listing.proofs.Room.{no-line}
+use Rattle.listing.proofs.Room.{no-line, line-of-found}
 use Rattle.listing.proofs.field_line.Statement.{statement}
 use Rattle.listing.proofs.field_line.Tie as tie
 
@@ -17,15 +16,12 @@ enum-told : tie.Need-enum-told
 enum-told c = search needs
 
 returns : tie.Need-returns
-unfolding lineAt
 returns c =
     let found = c .before .before .before in
-    rw (← found .before .before .at .ensures, found .found .given .1) (c .known-line .ensures)
+    line-of-found _ _ (found .before .before .at .ensures) (rw (found .found .given .1) (c .known-line .ensures))
 
 returns-2 : tie.Need-returns-2
-unfolding lineAt
-returns-2 c =
-    rw (← c .before .before .at .ensures, c .enum-told .given .1) no-line
+returns-2 c = line-of-found _ _ (c .before .before .at .ensures) (rw (c .enum-told .given .1) no-line)
 
 pub field-line-spec : {M : Type 1} → statement M
 field-line-spec =
