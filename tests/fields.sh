@@ -18,14 +18,17 @@ text 23 "refused 23 at 0: show file of more than 65,536 bytes"
 text 24 "refused 24 at 0: header of the show file not sound"
 worked=docs/worked.fields
 
-# The recorded runs.
+# The recorded runs, which README shows.
 cmp docs/worked.show crates/scene_fields/stdin
 cmp docs/worked.fields crates/scene_fields/stdout
 expect 0 "" "$worked" part 1 <docs/worked.show
 expect 0 "" docs/damaged.fields part 3 <docs/damaged.show
 cmp docs/damaged.show <(head -c 28 docs/worked.show)
 for run in worked damaged; do
-  [[ $(<README.md) == *"$(sed 's/^/    /' "docs/$run.fields")"* ]]
+  if [[ $(<README.md) != *"$(sed 's/^/    /' "docs/$run.fields")"* ]]; then
+    echo "README.md does not show docs/$run.fields"
+    exit 1
+  fi
 done
 
 # Other ways to say and to give the same.

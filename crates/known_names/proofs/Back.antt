@@ -10,7 +10,7 @@ use Rattle.rules.specs.declared.Field.{Field}
 use Rattle.rules.specs.declared.Found.the-variants as Found
 use Rattle.rules.specs.Rule.{Rule}
 use Rattle.rules.specs.Words.{recorded, fieldAt}
-use Rattle.rules.specs.Answer.{inputOf, entryThen, entryReading, Answered}
+use Rattle.rules.specs.Answer.{inputOf, entryReading, Answered}
 use Rattle.position.specs.declared.PositionSyntax.{PositionSyntax}
 use Rattle.position.specs.Entry.{positionReading}
 use Rattle.scene.specs.declared.SceneAnswer.{SceneAnswer}
@@ -19,7 +19,7 @@ use Rattle.update.specs.declared.UpdateAnswer.{UpdateAnswer}
 use Rattle.update.specs.Update.{updateReading, UpdateAnswered}
 use Rattle.metadata.specs.Entry.{metadataReading}
 use Rattle.laws.specs.Named.{AllNamed}
-use Rattle.laws.proofs.Front.{fits}
+use Rattle.laws.proofs.Front.{entry-fits}
 use Rattle.laws.proofs.Back.{field-back}
 use Rattle.known_names.specs.Known.{Known, AllKnown, ReadBackKnown, RecordedKnown}
 use Rattle.known_names.proofs.Position.{position-alone-known}
@@ -52,9 +52,9 @@ among (suc n) (f ∷ fs) a h =
     }
 
 -- it is read back from the words that hold them all
-stands : (ws vs : List ℕ) (before : List Field) (f : Field) (after fs : List Field) (n : ℕ) → fs ≡ before ++ f ∷ after → 0 + length before ≡ n →
-    5 * (0 + length fs) ≤ length ws → vs ≡ recorded true ws 0 fs → fieldAt vs n ≡ Found.Field f
-stands ws vs before f after fs n same place room words = rw (words, same, ← place) (field-back ws 0 before f after (rw same at room))
+pub stands : (ws vs : List ℕ) (before : List Field) (f : Field) (after fs : List Field) (n : ℕ) → fs ≡ before ++ f ∷ after → 0 + length before ≡ n →
+    5 * length fs ≤ length ws → vs ≡ recorded true ws 0 fs → fieldAt vs n ≡ Found.Field f
+stands ws vs before f after fs n same place room words = rw (words, same, ← place) (field-back ws 0 before f after (let fit = rw same at room in omega arith))
 
 -- of every call whose promise is `Answered`, of a reading whose names are known
 recorded-known : {A : Type 0} (bs ws : List ℕ) (own offset : ℕ) (r : Rule A) {a v : A} {answer : Answer} {vs : List ℕ} →
@@ -64,10 +64,9 @@ recorded-known bs ws own offset r {vs = vs} all answered n h =
     let x = entryReading (inputOf bs true ws) own offset r in
     let counted = ap (λ (t : Answer). t .fields) (answered .answer) in
     let f = among n (x .fields) all (omega arith) in
-    let room = fits bs (length ws) (entryThen (length bs) own offset r) 0 0 0 (omega arith) in
     record {
       field = f .field;
-      there = stands ws vs (f .before) (f .field) (f .after) (x .fields) n (f .same) (f .place) room (answered .words);
+      there = stands ws vs (f .before) (f .field) (f .after) (x .fields) n (f .same) (f .place) (entry-fits bs ws own offset r) (answered .words);
       is-known = f .is-known;
     }
 

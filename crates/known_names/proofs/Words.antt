@@ -12,8 +12,8 @@ use Rattle.rules.specs.Rule.{pick}
 use Rattle.rules.specs.Derived.{among}
 use Rattle.rules.proofs.Laws.{never, both}
 use Rattle.text.specs.Text.{ascii}
-use Rattle.names.specs.Table.{blocks, leaves, greatestFirst, greatestSecond, inRange, standsIn}
 use Rattle.text.specs.Table.{row}
+use Rattle.names.specs.Table.{blocks, leaves, greatestFirst, greatestSecond, inRange, standsIn}
 use Rattle.names.specs.NameText.{known}
 use Rattle.laws.proofs.Names.{parts-back}
 use Rattle.laws.proofs.Named.{names}

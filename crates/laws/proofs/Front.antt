@@ -11,6 +11,7 @@ use Rattle.rules.specs.declared.Field.{Field}
 use Rattle.rules.specs.Rule.{Rule}
 use Rattle.rules.specs.Reading.{reading}
 use Rattle.rules.specs.Words.{encoded, recorded}
+use Rattle.rules.specs.Answer.{inputOf, entryThen, entryReading}
 use Rattle.rules.proofs.Words.{encoded-length}
 use Rattle.laws.proofs.Counted.{counted}
 use Rattle.laws.proofs.Free.{on}
@@ -18,6 +19,10 @@ use Rattle.laws.proofs.Free.{on}
 -- what was counted before and is recorded now fits in the words
 pub fits : {A : Type 0} (bs : List ℕ) (room : ℕ) (r : Rule A) (p e n : ℕ) → 5 * n ≤ room → 5 * (n + length (reading (on bs room) r p e n .fields)) ≤ room
 fits bs room r p e n h = counted (on bs room) (λ n. 5 * n ≤ room) (λ n _ q. omega (arith, leb-true (5 * n + 5) room q)) r p e n h
+
+-- so the fields of a whole call do
+pub entry-fits : {A : Type 0} (bs ws : List ℕ) (own offset : ℕ) (r : Rule A) → 5 * length (entryReading (inputOf bs true ws) own offset r .fields) ≤ length ws
+entry-fits bs ws own offset r = omega (arith, fits bs (length ws) (entryThen (length bs) own offset r) 0 0 0 (omega arith))
 
 pub recorded-front : (ws : List ℕ) (n : ℕ) (fs : List Field) → 5 * (n + length fs) ≤ length ws →
     recorded true ws n fs ≡ take (5 * n) ws ++ encoded fs ++ drop (5 * (n + length fs)) ws

@@ -18,6 +18,7 @@ use Rattle.scene.specs.Scene.{sceneReading, SceneAnswered}
 use Rattle.metadata.specs.Entry.{metadataReading}
 use Rattle.laws.specs.Named.{AllNamed}
 use Rattle.laws.proofs.Free.{enough}
+use Rattle.laws.proofs.Front.{entry-fits}
 use Rattle.claims.specs.Book.{Packet, bookScene}
 use Rattle.show.specs.Header.{partCount, partOf, fileQuestion}
 use Rattle.show.specs.Show.{packet}
@@ -30,7 +31,7 @@ use Rattle.known_names.proofs.Update.{update-known}
 use Rattle.known_names.proofs.Metadata.{metadata-known}
 use Rattle.listing.specs.Listing.{listing}
 use Rattle.listings.specs.Printed.{printed, partListing}
-use Rattle.listings.proofs.Lines.{printed-lines, reading-fits, printed-is}
+use Rattle.listings.proofs.Lines.{printed-lines, printed-is}
 
 module _ (bs ws : List ℕ) (offset : ℕ) where
   pub scene-printed : {vs : List ℕ} {r : SceneAnswer} → SceneAnswered (sceneReading (inputOf bs true ws) offset) true ws r vs →
@@ -73,7 +74,7 @@ module _ (file : List ℕ) (k offset : ℕ) (ws : List ℕ) where
 
   whole-entry : (own : ℕ) (r : Rule (List PositionSyntax)) → AllKnown (entryReading (inputOf (partOf file k) true ws) own offset r) →
       Whole ws (listed (entryReading (inputOf (partOf file k) true ws) own offset r))
-  whole-entry own r known = whole (entryReading (inputOf (partOf file k) true ws) own offset r) known (reading-fits (partOf file k) ws own offset r)
+  whole-entry own r known = whole (entryReading (inputOf (partOf file k) true ws) own offset r) known (entry-fits (partOf file k) ws own offset r)
 
   update-whole : Whole ws (updateListed file k asked)
   unfolding updateListed fieldsOf

@@ -7,14 +7,13 @@ use native.Mathlib.Omega.{arith}
 use lib.ListN.{length, length-append}
 use Rattle.rules.specs.declared.Answer.{Answer}
 use Rattle.rules.specs.declared.Field.{Field}
-use Rattle.rules.specs.declared.Found.the-variants as Found
 use Rattle.rules.specs.Rule.{Rule}
-use Rattle.rules.specs.Words.{recorded, fieldAt}
-use Rattle.rules.specs.Answer.{inputOf, answerOf, entryThen, entryReading}
+use Rattle.rules.specs.Words.{recorded}
+use Rattle.rules.specs.Answer.{inputOf, answerOf, entryReading}
 use Rattle.laws.specs.Named.{AllNamed}
-use Rattle.laws.proofs.Back.{field-back}
-use Rattle.laws.proofs.Front.{fits}
+use Rattle.laws.proofs.Front.{entry-fits}
 use Rattle.known_names.specs.Known.{Known, AllKnown}
+use Rattle.known_names.proofs.Back.{stands}
 use Rattle.listing.specs.Listing.{fieldLine, fieldLines, lineAt, listing, outcomeLine}
 use Rattle.listings.specs.Printed.{lines, printed}
 
@@ -24,8 +23,7 @@ module _ (ws vs : List ℕ) where
       vs ≡ recorded true ws 0 (before ++ f ∷ after) → lineAt vs (length before) ≡ fieldLine f
   unfolding lineAt
   line-is before f after k room words =
-      let place : 0 + length before ≡ length before = omega arith in
-      let there : fieldAt vs (length before) ≡ Found.Field f = rw words (rw place at (field-back ws 0 before f after (omega (arith, room)))) in
+      let there = stands ws vs before f after _ (length before) refl (omega arith) room words in
       rw (there, k .is-known)
 
   -- those after the first ones
@@ -46,10 +44,7 @@ module _ (ws vs : List ℕ) where
 
 -- So what is printed of a call that records is the listing of its reading.
 module _ {A : Type 0} (bs ws : List ℕ) (own offset : ℕ) (r : Rule A) where
-  pub reading-fits : 5 * length (entryReading (inputOf bs true ws) own offset r .fields) ≤ length ws
-  reading-fits = omega (arith, fits bs (length ws) (entryThen (length bs) own offset r) 0 0 0 (omega arith))
-
   pub printed-is : {answer : Answer} {vs : List ℕ} → AllKnown (entryReading (inputOf bs true ws) own offset r) →
       answer ≡ answerOf (entryReading (inputOf bs true ws) own offset r) → vs ≡ recorded true ws 0 (entryReading (inputOf bs true ws) own offset r .fields) →
       printed answer vs ≡ listing (entryReading (inputOf bs true ws) own offset r)
-  printed-is {vs = vs} known answer words = rw answer (printed-lines ws vs _ known reading-fits words _ refl)
+  printed-is {vs = vs} known answer words = rw answer (printed-lines ws vs _ known (entry-fits bs ws own offset r) words _ refl)

@@ -5,8 +5,8 @@ use Rattle.rules.specs.Name.{named}
 use Rattle.rules.specs.Block as block
 use Rattle.rules.specs.Leaf as leaf
 use Rattle.text.specs.Text.{ascii, decimal, decimalWithin}
-use Rattle.names.specs.Table.{blocks, leaves, inRange, standsIn}
 use Rattle.text.specs.Table.{row}
+use Rattle.names.specs.Table.{blocks, leaves, inRange, standsIn}
 use Rattle.names.specs.NameText.{known, character, indexed, blockText, leafText, nameText}
 
 no-index : nameText (named block.sceneGraph leaf.count 0 0) ≡ ascii "ancillary.scene_graph.count"

@@ -11,8 +11,8 @@ use Rattle.rules.specs.Rule.{pick}
 use Rattle.rules.proofs.Laws.{both}
 use Rattle.text.specs.Text.{ascii, decimal}
 use Rattle.text.proofs.Decimal.{decimal-short}
-use Rattle.names.specs.Table.{blocks, leaves, greatestFirst, greatestSecond, inRange, standsIn}
 use Rattle.text.specs.Table.{row}
+use Rattle.names.specs.Table.{blocks, leaves, greatestFirst, greatestSecond, inRange, standsIn}
 use Rattle.names.specs.NameText.{known, character, indexed, blockText, leafText, nameText, blockRow, leafRow, blockOf, leafOf, firstOf, secondOf, thirdOf, fourthOf}
 use Rattle.text.proofs.Rows.{every, at-row}
 

@@ -12,8 +12,8 @@ use Rattle.rules.specs.Name.{first, second, third, fourth}
 use Rattle.rules.specs.Rule.{pick}
 use Rattle.text.specs.Text.{decimal}
 use Rattle.text.specs.declared.TextAnswer.{TextAnswer}
-use Rattle.names.specs.Table.{blocks, leaves, inRange, standsIn}
 use Rattle.text.specs.Table.{row}
+use Rattle.names.specs.Table.{blocks, leaves, inRange, standsIn}
 
 -- the parts of a word
 abbrev pub leafOf : ℕ → ℕ

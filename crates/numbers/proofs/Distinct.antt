@@ -1,8 +1,7 @@
 -- Each number of document 01 has words of its own.
 use Prim.Native.Nat.{ℕ, _<_}
-use Prim.Native.Char.{code}
 use mathlib.Core.Path.{_≡_, refl, sym, ap, _∙_}
-use mathlib.Core.List.{List, [], _∷_}
+use mathlib.Core.List.{List}
 use mathlib.Core.Bool.{Bool, true, false, not, _&&_, _||_}
 use native.Mathlib.Omega.{arith}
 use borrow.Author.Tests.{eqb-true, leb-true}
@@ -10,7 +9,7 @@ use lib.Dec.{eqb, leb}
 use lib.ListN.{length}
 use Rattle.rules.proofs.Laws.{never, both}
 use Rattle.text.specs.Table.{row}
-use Rattle.text.specs.Text.{ascii}
+use Rattle.text.specs.Text.{ascii, sameText}
 use Rattle.text.proofs.Rows.{every, at-number, lastRow}
 use Rattle.numbers.specs.Meaning.{meanings, upToBar, meaning}
 
@@ -19,21 +18,16 @@ abbrev pub isNumber : ℕ → Bool
 isNumber n = (leb 1 n && leb n 26) || (leb 31 n && leb n 35)
 
 -- the number that has these words
-abbrev isText : List ℕ → List ℕ → Bool
-isText [] words = eqb (length words) 0
-isText (c ∷ cs) [] = eqb c (code "|")
-isText (c ∷ cs) (w ∷ ws) = eqb c w && isText cs ws
-
 numberWith : List ℕ → ℕ
 unfolding meanings ascii
-numberWith words = lastRow (λ r. isText r words) 0 0 meanings
+numberWith words = lastRow (λ r. sameText (upToBar r) words) 0 0 meanings
 
 -- every one is had back from them
 abbrev isTold : ℕ → List ℕ → Bool
 isTold n r = not (isNumber n) || eqb (numberWith (upToBar r)) n
 
 all-told : every isTold 0 meanings ≡ true
-unfolding numberWith meanings upToBar ascii
+unfolding numberWith meanings upToBar ascii sameText
 all-told = refl
 
 in-table : (n : ℕ) → isNumber n ≡ true → n < length meanings
@@ -53,7 +47,7 @@ distinct-meanings m n h k e = sym (number-back m h) ∙ ap numberWith e ∙ numb
 
 -- and none has those of a number without a meaning, of which the last is 30
 without : numberWith (meaning 0) ≡ 30
-unfolding numberWith meaning row meanings upToBar ascii
+unfolding numberWith meaning row meanings upToBar ascii sameText
 without = refl
 
 pub own-meaning : (n : ℕ) → isNumber n ≡ true → meaning n ≡ meaning 0 → ⊥

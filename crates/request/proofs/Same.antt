@@ -6,7 +6,7 @@ use mathlib.Core.Bool.{Bool, true, false}
 use borrow.Author.Tests.{eqb-true, eq-eqb}
 use lib.Dec.{eqb}
 use Rattle.rules.proofs.Laws.{never, both}
-use Rattle.request.specs.Request.{sameText}
+use Rattle.text.specs.Text.{sameText}
 
 same-if : (a : List ℕ) → sameText a a ≡ true
 unfolding sameText

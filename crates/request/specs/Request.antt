@@ -1,22 +1,16 @@
 -- What `scene-fields` is asked for, by its arguments: a word, then K after `part`, then the bit, which may be left out.
 use Prim.Native.Nat.{ℕ}
 use Prim.Native.String.{String}
-use mathlib.Core.List.{List, [], _∷_}
-use mathlib.Core.Bool.{Bool, true, false, _&&_}
+use mathlib.Core.List.{List}
+use mathlib.Core.Bool.{Bool, true, _&&_}
 use lib.Dec.{eqb, leb}
 use Rattle.rules.specs.Rule.{pick}
 use Rattle.text.specs.declared.number.Number.{Number}
-use Rattle.text.specs.Text.{ascii, numberIn}
+use Rattle.text.specs.Text.{ascii, sameText, numberIn}
 use Rattle.request.specs.declared.Request.{Request}
 use Rattle.request.specs.declared.Request.the-variants.{Scene, Metadata, Part, Unknown}
 
 -- whether a text is a word
-unfoldable pub sameText : List ℕ → List ℕ → Bool
-sameText [] [] = true
-sameText [] (d ∷ ds) = false
-sameText (c ∷ cs) [] = false
-sameText (c ∷ cs) (d ∷ ds) = eqb c d && sameText cs ds
-
 abbrev pub isWord : List ℕ → String → Bool
 isWord text word = sameText text (ascii word)
 

@@ -1,7 +1,8 @@
 // What `scene-fields` is asked for, by its arguments.
 use text::number::Number;
 ghost use mathlib.Core.Path.{_≡_};
-ghost use Rattle.request.specs.Request.{sameText, numberOrZero, partRequest, requestOf};
+ghost use Rattle.text.specs.Text.{sameText};
+ghost use Rattle.request.specs.Request.{numberOrZero, partRequest, requestOf};
 
 // The bit at which a scene or a metadata configuration begins; or a part of a show, and the bit of it; or nothing known.
 pub enum Request {

@@ -5,7 +5,7 @@ use Prim.Native.String.{String, [] as none, _∷_ as _then_}
 use mathlib.Core.Path.{_≡_}
 use mathlib.Core.List.{List, [], _∷_, _++_}
 use mathlib.Core.Bool.{Bool, true, false, _&&_}
-use lib.Dec.{ltb, leb}
+use lib.Dec.{ltb, leb, eqb}
 use lib.ListN.{length}
 use lib.Seq.{sets}
 use Rattle.rules.specs.Rule.{pick}
@@ -16,7 +16,14 @@ unfoldable pub ascii : String → List ℕ
 ascii none = []
 ascii (c then s) = code c ∷ ascii s
 
--- that of a digit
+-- whether two texts are the same
+unfoldable pub sameText : List ℕ → List ℕ → Bool
+sameText [] [] = true
+sameText [] (d ∷ ds) = false
+sameText (c ∷ cs) [] = false
+sameText (c ∷ cs) (d ∷ ds) = eqb c d && sameText cs ds
+
+-- the code of a digit
 abbrev pub digit : ℕ → ℕ
 digit d = 48 + d
 
