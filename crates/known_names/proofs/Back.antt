@@ -63,7 +63,7 @@ recorded-known : {A : Type 0} (bs ws : List ℕ) (own offset : ℕ) (r : Rule A)
 recorded-known bs ws own offset r {vs = vs} all answered n h =
     let x = entryReading (inputOf bs true ws) own offset r in
     let counted = ap (λ (t : Answer). t .fields) (answered .answer) in
-    let f = among n (x .fields) all (omega arith) in
+    let f = among n (x .fields) (all .fields) (omega arith) in
     record {
       field = f .field;
       there = stands ws vs (f .before) (f .field) (f .after) (x .fields) n (f .same) (f .place) (entry-fits bs ws own offset r) (answered .words);

@@ -7,6 +7,8 @@ use lib.Pow.{pow-mono}
 use Rattle.rules.specs.Leaf as leaf
 use Rattle.compression.specs.Probability.{addFloat, floats, addInteger, integers, probabilities}
 use Rattle.compression.specs.Compression.{lzwWidths, lzw, codeword, entries, table, tableCount, tables, parameter, parameterIfPresent, padding, paddedTables, contents, metadataCompression}
+use Rattle.numbers.specs.Meaning.{HasWords}
+use Rattle.numbers.proofs.Distinct.{has-words}
 use Rattle.laws.specs.Named.{Names}
 use Rattle.laws.proofs.Named.{names-bind, names-weaker, escaped-value, count-value}
 use Rattle.known_names.specs.Known.{Known, KnownNames}
@@ -50,10 +52,11 @@ table-known : (kind i : ℕ) → i < firsts 5 → KnownNames (table kind i)
 unfolding table thirds
 table-known kind i h = let b = begun-tables i h in search (known-names, entries-known)
 
-table-count-value : Names Known (λ n. n ≤ 4096) tableCount
+table-count-value : Names Known HasWords (λ n. n ≤ 4096) tableCount
 unfolding tableCount thirds
 table-count-value =
-    names-bind (escaped-value _ _ (known-leaf _ leaf.tableCountMinusOne begun-compression refl)) (λ n _. names-weaker (count-value (n + 1) 5) (λ v q. q .1))
+    names-bind (escaped-value _ _ (known-leaf _ leaf.tableCountMinusOne begun-compression refl))
+    (λ n _. names-weaker (count-value (n + 1) 5 (has-words 6 refl)) (λ v q. q .1))
 
 tables-known : (kind : ℕ) → KnownNames (tables kind)
 unfolding tables firsts

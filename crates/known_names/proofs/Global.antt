@@ -5,6 +5,7 @@ use mathlib.Core.List.{[], _∷_}
 use native.Mathlib.Omega.{arith}
 use Rattle.rules.specs.Leaf as leaf
 use Rattle.global.specs.Global.{gainValues, gain, item, items, mask, maskedItems, hrtfResource, hrtfType, hrtf, speakerType, speaker, speakers, layout, labelledLayout, predefinedIndex, resourceReference, predefined, channels, padding, paddedChannels, headphoneChannels, headphones, metadataGlobalParameter}
+use Rattle.numbers.proofs.Distinct.{has-words}
 use Rattle.laws.proofs.Named.{names-then, names-position, take-then, most-then}
 use Rattle.known_names.specs.Known.{KnownNames}
 use Rattle.known_names.proofs.Words.{Begun, thirds, fourths, known-leaf, known-names}
@@ -79,7 +80,7 @@ module _ (p : ℕ) (b : Begun (6 ∷ []) 1 p) where
       names-then names-position
       (λ start.
       take-then _ 8 _ (known-leaf p leaf.channelsMinusOne b refl)
-      (λ n _. most-then _ bits _ _ (λ l. padded-channels-known (n + 1) (start + bits) (omega arith))))
+      (λ n _. most-then _ bits _ _ (has-words 18 refl) (λ l. padded-channels-known (n + 1) (start + bits) (omega arith))))
 
   headphones-known : KnownNames (headphones p)
   unfolding headphones thirds

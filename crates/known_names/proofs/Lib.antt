@@ -1,4 +1,6 @@
 pub mod Words
+pub mod Numbers
+pub mod Validation
 pub mod Position
 pub mod Scene
 pub mod Update
@@ -10,3 +12,4 @@ pub mod Global
 pub mod Metadata
 pub mod Refusal
 pub mod Back
+pub mod Explained

@@ -2,14 +2,16 @@
 use Prim.Native.Nat.{ℕ, _+_, _<_, _≤_}
 use mathlib.Core.Path.{refl}
 use mathlib.Core.List.{[], _∷_}
+use mathlib.Core.Bool.{true}
 use native.Mathlib.Omega.{arith}
 use Rattle.rules.specs.Leaf as leaf
 use Rattle.rules.specs.Reading.{Input}
 use Rattle.metadata.specs.Metadata.{metadataEsc, metadataNumber, compression, compressionIfPresent, configurationPresent, parameter, eachParameter, parameters, parametersIfPresent, secondParameter, bothParameters, componentParameters, componentReference, eachChannelIndex, channelIndices, channels, component, componentUnlessDefault, dataIfPresent, group, eachGroup, groups, parametersAndGroups, metadataConfiguration}
 use Rattle.metadata.specs.Entry.{metadataReading}
-use Rattle.laws.proofs.Named.{escaped-then, entry-named}
+use Rattle.laws.proofs.Named.{escaped-then}
 use Rattle.known_names.specs.Known.{Known, KnownNames, AllKnown}
 use Rattle.known_names.proofs.Words.{Begun, firsts, thirds, known-leaf, begun-metadata, begun-compression, begun-parameters, begun-groups, known-names}
+use Rattle.known_names.proofs.Numbers.{own-words, call-known}
 use Rattle.known_names.proofs.Compression.{metadata-compression-known}
 use Rattle.known_names.proofs.Renderer.{renderer-data-known}
 use Rattle.known_names.proofs.Global.{metadata-global-parameter-known}
@@ -88,4 +90,4 @@ unfolding metadataConfiguration parametersAndGroups
 metadata-configuration-known = search (known-names, compression-if-present-known, configuration-present-known, parameters-if-present-known, groups-known)
 
 pub metadata-known : (i : Input) (offset : ℕ) → AllKnown (metadataReading i offset)
-metadata-known i offset = entry-named i 0 offset (λ _. metadata-configuration-known)
+metadata-known i offset = call-known i 0 offset (own-words true) (λ _. metadata-configuration-known)

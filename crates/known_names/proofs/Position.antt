@@ -13,10 +13,12 @@ use Rattle.rules.specs.Reading.{Input}
 use Rattle.rules.proofs.Pick.{by-pick}
 use Rattle.position.specs.declared.PositionSyntax.{PositionSyntax}
 use Rattle.position.specs.Position.{dynamics, precisions, header, changed, newParent, parent, range, flagUnless, bases, howMany, widthsOf, coordinateValues, coordinates, coordinatesIfPresent, rotationValues, rotation, extensionBody, extension, extensions, extensionsIfPresent, beforeRange, afterRange, position}
-use Rattle.position.specs.Entry.{positionReading}
-use Rattle.laws.proofs.Named.{names-ends, names-passive-values, entry-named}
+use Rattle.position.specs.Entry.{isShaped, positionReading}
+use Rattle.numbers.proofs.Distinct.{has-words}
+use Rattle.laws.proofs.Named.{names-ends, names-passive-values}
 use Rattle.known_names.specs.Known.{Known, KnownNames, AllKnown}
 use Rattle.known_names.proofs.Words.{Begun, firsts, thirds, known-leaf, known-third, begun-third, begun-among, begun-positions, known-names}
+use Rattle.known_names.proofs.Numbers.{own-words, call-known}
 
 -- The blocks that a position's names may be of: with `full` each of three, and those of an update are of block 2, where
 -- alone the leaves of an update stand.
@@ -85,7 +87,7 @@ module _ (p : ℕ) (b : Begun (2 ∷ 6 ∷ 9 ∷ []) 1 p) where
   -- the extensions from number `j` on, at most 32 in all
   extensions-known : (k j q : ℕ) → q ≡ p + third * j → j + k ≤ 32 → KnownNames (extensions k q)
   unfolding extensions
-  extensions-known zero j q e h = names-ends
+  extensions-known zero j q e h = names-ends (has-words 7 refl)
   extensions-known (suc k) j q e h =
       let here : Begun (2 ∷ 6 ∷ 9 ∷ []) 32 q = rw e (begun-third p j b (omega arith)) in
       let rest = extensions-known k (j + 1) (q + third) (omega arith) (omega arith) in
@@ -133,4 +135,4 @@ position-known p sh full u = let b = position-word full u in search (known-names
 pub position-alone-known : (i : Input) (offset : ℕ) (sh : PositionSyntax) (full : Bool) → AllKnown (positionReading i offset sh full)
 unfolding firsts
 position-alone-known i offset sh full =
-    entry-named i _ offset (λ _. position-known _ sh full (first-word full (begun-positions 0 (omega arith))))
+    call-known i _ offset (own-words (isShaped sh)) (λ _. position-known _ sh full (first-word full (begun-positions 0 (omega arith))))

@@ -5,6 +5,8 @@ use mathlib.Core.List.{[], _∷_}
 use native.Mathlib.Omega.{arith}
 use Rattle.rules.specs.Leaf as leaf
 use Rattle.radiation.specs.Radiation.{rendererPrecision, compactOrPrecise, anglesAndGain, bandValues, band, countPlusOne, eachBand, bands, gainAndAngle, pattern, precisionWidth, patternOfPrecision, size, sizes, coefficients, resourceIndex, rendererRadiation}
+use Rattle.numbers.specs.Meaning.{HasWords}
+use Rattle.numbers.proofs.Distinct.{has-words}
 use Rattle.laws.specs.Named.{Names}
 use Rattle.laws.proofs.Named.{names-bind, names-weaker, escaped-value, count-value}
 use Rattle.known_names.specs.Known.{Known, KnownNames}
@@ -31,10 +33,11 @@ module _ (q : ℕ) (b : Begun (9 ∷ []) 582 q) where
 
 module _ (p : ℕ) (b : Begun (9 ∷ []) 1 p) where
   -- as many as the parts of 3, 6 and 9 bits come to, and one more
-  count-plus-one-value : (least : ℕ) → Names Known (λ n. n ≤ 582) (countPlusOne p least)
+  count-plus-one-value : (least : ℕ) → Names Known HasWords (λ n. n ≤ 582) (countPlusOne p least)
   unfolding countPlusOne thirds
   count-plus-one-value least =
-      names-bind (escaped-value _ _ (known-leaf p leaf.countMinusOne b refl)) (λ n l. names-weaker (count-value (n + 1) least) (λ v q. omega (arith, q .0)))
+      names-bind (escaped-value _ _ (known-leaf p leaf.countMinusOne b refl))
+      (λ n l. names-weaker (count-value (n + 1) least (has-words 6 refl)) (λ v q. omega (arith, q .0)))
 
   each-band-known : (kind w n : ℕ) → n ≤ 582 → KnownNames (eachBand p kind w n)
   unfolding eachBand

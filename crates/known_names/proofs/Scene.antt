@@ -10,12 +10,14 @@ use Rattle.rules.specs.Block as block
 use Rattle.rules.specs.Reading.{Input}
 use Rattle.position.specs.declared.PositionSyntax.{PositionSyntax}
 use Rattle.position.specs.Shape.{default}
-use Rattle.validation.specs.Validation.{validateGraph}
 use Rattle.scene.specs.Positions.{updatedPosition, positionAt, positions}
 use Rattle.scene.specs.Scene.{sceneFields, sceneGraph, sceneReading}
-use Rattle.laws.proofs.Named.{names-each, drc-count-then, entry-named}
+use Rattle.numbers.proofs.Distinct.{has-words}
+use Rattle.laws.proofs.Named.{names-each, drc-count-then}
 use Rattle.known_names.specs.Known.{KnownNames, AllKnown}
 use Rattle.known_names.proofs.Words.{thirds, firsts, Begun, known-leaf, begun-scene-graph, begun-positions, known-names}
+use Rattle.known_names.proofs.Numbers.{own-words, call-known}
+use Rattle.known_names.proofs.Validation.{validate-graph-known}
 use Rattle.known_names.proofs.Position.{position-known}
 
 -- one position
@@ -35,12 +37,12 @@ positions-known full shapes h = names-each _ 0 shapes (λ i sh _ l. position-at-
 scene-fields-known : KnownNames sceneFields
 unfolding sceneFields thirds
 scene-fields-known =
-    drc-count-then _ 6 18 _ (known-leaf block.sceneGraph leaf.count begun-scene-graph refl)
+    drc-count-then _ 6 18 _ (known-leaf block.sceneGraph leaf.count begun-scene-graph refl) (has-words 6 refl)
     (λ n l _. positions-known true (replicate n default) (omega (arith, length-replicate n default)))
 
 scene-graph-known : KnownNames sceneGraph
-unfolding sceneGraph validateGraph
-scene-graph-known = search (known-names, scene-fields-known)
+unfolding sceneGraph
+scene-graph-known = search (known-names, scene-fields-known, validate-graph-known)
 
 pub scene-known : (i : Input) (offset : ℕ) → AllKnown (sceneReading i offset)
-scene-known i offset = entry-named i 0 offset (λ _. scene-graph-known)
+scene-known i offset = call-known i 0 offset (own-words true) (λ _. scene-graph-known)

@@ -15,6 +15,7 @@ use Rattle.text.specs.Text.{ascii}
 use Rattle.text.specs.Table.{row}
 use Rattle.names.specs.Table.{blocks, leaves, greatestFirst, greatestSecond, inRange, standsIn}
 use Rattle.names.specs.NameText.{known}
+use Rattle.numbers.proofs.Distinct.{has-words}
 use Rattle.laws.proofs.Names.{parts-back}
 use Rattle.laws.proofs.Named.{names}
 use Rattle.known_names.specs.Known.{Known}
@@ -198,6 +199,6 @@ begun-group-data i h = begun-first 8 i _ (omega arith) h (omega arith)
 pub begun-data-parameters : (i j : ℕ) → i < firsts 9 → j < seconds 9 → Begun (9 ∷ []) 1 (block.dataParameters i j)
 begun-data-parameters i j h l = begun 9 i j _ (omega arith) h l (omega arith)
 
--- For `search`: names that are known, of rules and of words.
+-- For `search`: names that are known, of rules and of words, and numbers that have words.
 pub ruleset known-names =
-    (names, known-leaf, known-third, known-fourth, known-fourth-one, known-third-fourth, known-further, begun-third, begun-among)
+    (names, has-words, known-leaf, known-third, known-fourth, known-fourth-one, known-third-fourth, known-further, begun-third, begun-among)

@@ -1,1 +1,2 @@
-// Every name that a reading records is known: the claim stands in specs/, its proof in proofs/. There is no code here.
+// Every name that a reading records is known, and every number that it gives has words: the claims stand in specs/, their proofs
+// in proofs/. There is no code here.

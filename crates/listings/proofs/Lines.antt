@@ -47,4 +47,4 @@ module _ {A : Type 0} (bs ws : List ℕ) (own offset : ℕ) (r : Rule A) where
   pub printed-is : {answer : Answer} {vs : List ℕ} → AllKnown (entryReading (inputOf bs true ws) own offset r) →
       answer ≡ answerOf (entryReading (inputOf bs true ws) own offset r) → vs ≡ recorded true ws 0 (entryReading (inputOf bs true ws) own offset r .fields) →
       printed answer vs ≡ listing (entryReading (inputOf bs true ws) own offset r)
-  printed-is {vs = vs} known answer words = rw answer (printed-lines ws vs _ known (entry-fits bs ws own offset r) words _ refl)
+  printed-is {vs = vs} known answer words = rw answer (printed-lines ws vs _ (known .fields) (entry-fits bs ws own offset r) words _ refl)

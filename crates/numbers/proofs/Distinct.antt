@@ -11,7 +11,7 @@ use Rattle.rules.proofs.Laws.{never, both}
 use Rattle.text.specs.Table.{row}
 use Rattle.text.specs.Text.{ascii, sameText}
 use Rattle.text.proofs.Rows.{every, at-number, lastRow}
-use Rattle.numbers.specs.Meaning.{meanings, upToBar, meaning}
+use Rattle.numbers.specs.Meaning.{meanings, upToBar, meaning, HasWords}
 
 -- 1 to 26 and 31 to 35
 abbrev pub isNumber : ℕ → Bool
@@ -50,5 +50,5 @@ without : numberWith (meaning 0) ≡ 30
 unfolding numberWith meaning row meanings upToBar ascii sameText
 without = refl
 
-pub own-meaning : (n : ℕ) → isNumber n ≡ true → meaning n ≡ meaning 0 → ⊥
-own-meaning n h e = let last = sym (number-back n h) ∙ ap numberWith e ∙ without in never (rw last at h) refl
+pub has-words : (n : ℕ) → isNumber n ≡ true → HasWords n
+has-words n h = record { words = λ e. let last = sym (number-back n h) ∙ ap numberWith e ∙ without in never (rw last at h) refl }

@@ -3,6 +3,7 @@
 use Prim.Native.Nat.{ℕ}
 use Prim.Native.Char.{code}
 use Prim.Native.String.{String}
+use mathlib.Core.Path.{_≡_}
 use mathlib.Core.List.{List, [], _∷_}
 use lib.Dec.{eqb}
 use Rattle.rules.specs.Rule.{pick}
@@ -55,3 +56,7 @@ upToBar (c ∷ cs) = pick (eqb c (code "|")) [] (c ∷ upToBar cs)
 
 unfoldable pub meaning : ℕ → List ℕ
 meaning n = upToBar (row meanings n)
+
+-- a number that has words: they are not those of a number without a meaning
+pub record HasWords (n : ℕ) : Type 0 where
+  pub words : meaning n ≡ meaning 0 → ⊥
