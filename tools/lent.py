@@ -51,9 +51,9 @@ FUNCTION = re.compile(
     r'((?:    (?:requires|ensures) [^\n]*\n)+)(\{\n.*?^\}\n)', re.M | re.S)
 
 
-def twin(crate, planned):
-    """The source of a crate's twin, in which only the bodies of `planned` are of account."""
-    with open(f'crates/{crate}/src/lib.rt') as f:
+def twin(crate, file, planned):
+    """A file of a crate's twin, in which only the bodies of `planned` are of account."""
+    with open(f'crates/{crate}/src/{file}') as f:
         source = re.sub(r'^ghost use .*\n', '', f.read(), flags=re.M)
     copying = planned == COPYING.get(crate)
 
@@ -94,8 +94,9 @@ def put_twin(folder, crate, planned):
     """The twin in the place of the crate, in a copy of the repository"""
     shutil.rmtree(f'{folder}/crates/{crate}')
     os.makedirs(f'{folder}/crates/{crate}/src')
-    with open(f'{folder}/crates/{crate}/src/lib.rt', 'w') as f:
-        f.write(twin(crate, planned))
+    for file in os.listdir(f'crates/{crate}/src'):
+        with open(f'{folder}/crates/{crate}/src/{file}', 'w') as f:
+            f.write(twin(crate, file, planned))
 
 
 # What Rattle writes of an array of numbers, and what it writes of the struct in its place (proofs/Lent.antt). The modules

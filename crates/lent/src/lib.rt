@@ -122,7 +122,15 @@ pub fn graph_update(
     let none = PositionSyntax::default();
     let before = array_of(&shapes[..], none);
     let own = question(&shapes[..]);
-    let a = update::read_update(bytes, offset, recording, &mut words[..], before, count, own);
+    let a = update::undecided::read_update(
+        bytes,
+        offset,
+        recording,
+        &mut words[..],
+        before,
+        count,
+        own,
+    );
     let t = a.state;
     let answer = t.answer();
     if t.is_read() {

@@ -39,8 +39,8 @@ shapesQuestion count shapes = pick (mayUpdate count shapes) 0 2
 abbrev pub updateReading : Input → ℕ → ℕ → List PositionSyntax → Reading (List PositionSyntax)
 updateReading i offset count shapes = entryReading i (shapesQuestion count shapes) offset (graphUpdate shapes)
 
--- What its reading gives, before it is decided whether it counts: the first `count` shapes as far as they were read, and
--- the others as they came.
+-- What its reading gives, before it is decided whether it counts: the first `count` shapes if it was read, of which nothing
+-- is said if not, and the others as they came.
 pub record UpdateGiven (x : Reading (List PositionSyntax)) (count : ℕ) (shapes : List PositionSyntax) (rec : Bool) (ws : List ℕ) (r : TakenShapes) (vs : List ℕ) : Type 0 where
   pub given : Gives x rec 0 ws (take count (r .shapes)) (r .state) vs
   pub others : drop count (r .shapes) ≡ drop count shapes

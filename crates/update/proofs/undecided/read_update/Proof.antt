@@ -2,8 +2,8 @@ use native.Mathlib.Omega.{arith}
 use borrow.Author.Needs.{needs}
 use Rattle.rules.proofs.Laws.{fresh-sound}
 use Rattle.rules.proofs.Answers.{call-gives}
-use Rattle.update.proofs.read_update.Statement.{statement}
-use Rattle.update.proofs.read_update.Tie as tie
+use Rattle.update.proofs.undecided.read_update.Statement.{statement}
+use Rattle.update.proofs.undecided.read_update.Tie as tie
 
 fresh-requires : tie.Need-fresh-requires
 fresh-requires c κs = search needs

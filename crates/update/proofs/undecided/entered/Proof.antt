@@ -4,8 +4,8 @@ use lib.ListN.{length}
 use Rattle.rules.proofs.Answers.{entry-broken}
 use Rattle.scene.proofs.Scenes.{behind-entry}
 use Rattle.update.proofs.Questions.{question-met, few-shapes, shapes-shaped}
-use Rattle.update.proofs.entered.Statement.{statement}
-use Rattle.update.proofs.entered.Tie as tie
+use Rattle.update.proofs.undecided.entered.Statement.{statement}
+use Rattle.update.proofs.undecided.entered.Tie as tie
 
 entry-requires : tie.Need-entry-requires
 entry-requires c κs = search needs

@@ -1,8 +1,8 @@
 use borrow.Author.Needs.{needs}
 use Rattle.scene.proofs.Scenes.{then-valid}
 use Rattle.update.specs.Update.{graphUpdate, updateFields}
-use Rattle.update.proofs.updated.Statement.{statement}
-use Rattle.update.proofs.updated.Tie as tie
+use Rattle.update.proofs.undecided.updated.Statement.{statement}
+use Rattle.update.proofs.undecided.updated.Tie as tie
 
 positions-requires : tie.Need-positions-requires
 positions-requires c κs = search needs
