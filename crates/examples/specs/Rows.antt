@@ -6,16 +6,18 @@ use mathlib.Core.Path.{_≡_}
 use mathlib.Core.List.{List, [], _∷_, _++_, map}
 use mathlib.Core.Bool.{false}
 use lib.ListN.{length, take}
+use Rattle.rules.specs.declared.Outcome.{Outcome}
+use Rattle.rules.specs.declared.Outcome.the-variants.{Read, Refused}
 use Rattle.rules.specs.Rule.{Rule}
 use Rattle.rules.specs.Reading.{Reading, reading}
 use Rattle.rules.specs.Derived.{escaped}
-use Rattle.rules.specs.Answer.{outcomeOf, outcomeNumber, valueOr}
+use Rattle.rules.specs.Answer.{outcomeOf, valueOr}
 use Rattle.validation.specs.Rank.{parents}
 use Rattle.compression.specs.Probability.{floats}
 use Rattle.text.specs.Text.{ascii}
 use Rattle.claims.specs.Book.{Packet, packetOf, bookScene, bookFirst, bookReading, bookShapes}
 use Rattle.show.specs.Header.{fileQuestion}
-use Rattle.show.specs.Show.{packet, showText}
+use Rattle.show.specs.Show.{packet, showText, fileOutcome}
 use Rattle.part.specs.Part.{partListed}
 use Rattle.listings.specs.Printed.{partListing}
 
@@ -34,11 +36,11 @@ pub data Example : Type 0 where
   -- a table's probabilities at precision 32, of these patterns
   probabilitiesOf : (patterns : List ℕ) → Example
 
--- and what it gives: the number (0 if read), the bit position, how many fields, and the value, the parents of the shapes, or
--- the printed text
+-- and what it gives: the outcome (of a listed part its file's), the bit position, how many fields, and the value, the parents of
+-- the shapes, or the printed text
 pub record Row : Type 0 where
   pub example : Example
-  pub number : ℕ
+  pub outcome : Outcome
   pub position : ℕ
   pub fields : ℕ
   pub values : List ℕ
@@ -46,7 +48,7 @@ pub record Row : Type 0 where
 abbrev pub row : {A : Type 0} → Example → Reading A → (A → List ℕ) → A → Row
 row example x values none = record {
   example = example;
-  number = outcomeNumber (outcomeOf (x .result));
+  outcome = outcomeOf (x .result);
   position = x .position;
   fields = length (x .fields);
   values = values (valueOr none (x .result));
@@ -69,9 +71,9 @@ given (sceneIn bs) = row (sceneIn bs) (bookScene (packetIn bs)) parents []
 given (packetAfter scene before bs) =
     let shapes = bookShapes (map packetIn before) (bookFirst (packetIn scene)) in
     row (packetAfter scene before bs) (bookReading (packetIn bs) shapes) parents shapes
-given (showIn file) = record { example = showIn file; number = fileQuestion file; position = 0; fields = 0; values = showText file }
+given (showIn file) = record { example = showIn file; outcome = fileOutcome (fileQuestion file); position = 0; fields = 0; values = showText file }
 given (partIn file k) =
-    record { example = partIn file k; number = fileQuestion file; position = 0; fields = 0; values = partListing (partListed file k (packet file k)) }
+    record { example = partIn file k; outcome = fileOutcome (fileQuestion file); position = 0; fields = 0; values = partListing (partListed file k (packet file k)) }
 given (probabilitiesOf xs) = row (probabilitiesOf xs) (whole (bytesOf xs) (floats 0 (length xs))) (λ _. []) tt
 
 abbrev pub AllHold : List Row → Type 0
@@ -105,21 +107,21 @@ lines (l ∷ ls) = ascii l ++ (10 ∷ lines ls)
 abbrev pub rows : List Row
 rows =
     -- widths 4, 7, 10 on 1111 0000000: value 15
-    record { example = escapedIn (0xF0 ∷ 0x00 ∷ []) (4 ∷ 7 ∷ 10 ∷ []); number = 0; position = 11; fields = 1; values = 15 ∷ [] } ∷
+    record { example = escapedIn (0xF0 ∷ 0x00 ∷ []) (4 ∷ 7 ∷ 10 ∷ []); outcome = Read; position = 11; fields = 1; values = 15 ∷ [] } ∷
     -- scenes: no bytes; no position; one that is not there; one whose parent is not declared; one without a parent
-    record { example = sceneIn []; number = 3; position = 0; fields = 0; values = [] } ∷
-    record { example = sceneIn (0x00 ∷ []); number = 0; position = 6; fields = 1; values = [] } ∷
-    record { example = sceneIn (0x04 ∷ []); number = 6; position = 6; fields = 1; values = [] } ∷
-    record { example = sceneIn (0x04 ∷ 0x00 ∷ 0x04 ∷ 0x00 ∷ []); number = 8; position = 30; fields = 11; values = [] } ∷
-    record { example = sceneIn (0x04 ∷ 0x00 ∷ 0x00 ∷ 0x00 ∷ []); number = 0; position = 30; fields = 11; values = 0 ∷ [] } ∷
+    record { example = sceneIn []; outcome = Refused 3; position = 0; fields = 0; values = [] } ∷
+    record { example = sceneIn (0x00 ∷ []); outcome = Read; position = 6; fields = 1; values = [] } ∷
+    record { example = sceneIn (0x04 ∷ []); outcome = Refused 6; position = 6; fields = 1; values = [] } ∷
+    record { example = sceneIn (0x04 ∷ 0x00 ∷ 0x04 ∷ 0x00 ∷ []); outcome = Refused 8; position = 30; fields = 11; values = [] } ∷
+    record { example = sceneIn (0x04 ∷ 0x00 ∷ 0x00 ∷ 0x00 ∷ []); outcome = Read; position = 30; fields = 11; values = 0 ∷ [] } ∷
     -- the show: the second part closes a circle, and is accepted once the third has opened it
-    record { example = sceneIn part0; number = 0; position = 48; fields = 20; values = 0 ∷ 1 ∷ [] } ∷
-    record { example = packetAfter part0 [] part1; number = 9; position = 13; fields = 8; values = 0 ∷ 1 ∷ [] } ∷
-    record { example = packetAfter part0 (part1 ∷ []) part2; number = 0; position = 7; fields = 7; values = 0 ∷ 0 ∷ [] } ∷
-    record { example = packetAfter part0 (part1 ∷ part2 ∷ []) part3; number = 0; position = 13; fields = 8; values = 2 ∷ 0 ∷ [] } ∷
+    record { example = sceneIn part0; outcome = Read; position = 48; fields = 20; values = 0 ∷ 1 ∷ [] } ∷
+    record { example = packetAfter part0 [] part1; outcome = Refused 9; position = 13; fields = 8; values = 0 ∷ 1 ∷ [] } ∷
+    record { example = packetAfter part0 (part1 ∷ []) part2; outcome = Read; position = 7; fields = 7; values = 0 ∷ 0 ∷ [] } ∷
+    record { example = packetAfter part0 (part1 ∷ part2 ∷ []) part3; outcome = Read; position = 13; fields = 8; values = 2 ∷ 0 ∷ [] } ∷
     record {
       example = showIn show;
-      number = 0;
+      outcome = Read;
       position = 0;
       fields = 0;
       values =
@@ -135,7 +137,7 @@ rows =
     -- its second part, listed; and its fourth part, if the file has lost its last byte
     record {
       example = partIn show 1;
-      number = 0;
+      outcome = Read;
       position = 0;
       fields = 0;
       values =
@@ -153,7 +155,7 @@ rows =
     } ∷
     record {
       example = partIn (take 28 show) 3;
-      number = 0;
+      outcome = Read;
       position = 0;
       fields = 0;
       values =
@@ -165,9 +167,9 @@ rows =
           ∷ []);
     } ∷
     -- a file of no bytes
-    record { example = showIn []; number = 24; position = 0; fields = 0; values = lines ("file refused 24" ∷ []) } ∷
+    record { example = showIn []; outcome = Refused 24; position = 0; fields = 0; values = lines ("file refused 24" ∷ []) } ∷
     -- probabilities: 2^-24 added to 1 is lost, and again; two of them before it are not; -0 passes
-    record { example = probabilitiesOf (0x3F80_0000 ∷ 0x3380_0000 ∷ 0x3380_0000 ∷ 0 ∷ []); number = 0; position = 128; fields = 4; values = [] } ∷
-    record { example = probabilitiesOf (0x3380_0000 ∷ 0x3380_0000 ∷ 0x3F80_0000 ∷ 0 ∷ []); number = 22; position = 128; fields = 4; values = [] } ∷
-    record { example = probabilitiesOf (0x8000_0000 ∷ 0x3F80_0000 ∷ []); number = 0; position = 64; fields = 2; values = [] } ∷
+    record { example = probabilitiesOf (0x3F80_0000 ∷ 0x3380_0000 ∷ 0x3380_0000 ∷ 0 ∷ []); outcome = Read; position = 128; fields = 4; values = [] } ∷
+    record { example = probabilitiesOf (0x3380_0000 ∷ 0x3380_0000 ∷ 0x3F80_0000 ∷ 0 ∷ []); outcome = Refused 22; position = 128; fields = 4; values = [] } ∷
+    record { example = probabilitiesOf (0x8000_0000 ∷ 0x3F80_0000 ∷ []); outcome = Read; position = 64; fields = 2; values = [] } ∷
     []
