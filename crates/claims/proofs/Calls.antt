@@ -1,70 +1,62 @@
--- What the promises of `read_scene` and of the updates say in the book's terms.
-use Prim.Native.Nat.{ℕ, _*_}
-use mathlib.Core.Path.{_≡_, sym, _∙_, ap, subst}
-use mathlib.Core.List.{List, [], _++_}
-use mathlib.Core.Bool.{Bool, true, false}
-use mathlib.Core.Logic.{_↔_}
-use native.Mathlib.Omega.{arith}
-use lib.ListN.{length, take, drop}
-use lib.Seq.{take-at}
-use Rattle.rules.specs.declared.Answer.{Answer}
-use Rattle.rules.specs.Rule.{Rule}
-use Rattle.rules.specs.Reading.{Reading, reading}
-use Rattle.rules.specs.Words.{encoded}
-use Rattle.rules.specs.Answer.{outcomeNumber, answerOf, inputOf, Answered}
-use Rattle.rules.proofs.Words.{encoded-length}
+-- The claim on lists of calls, from what the record of each run says.
+use Prim.Native.Nat.{ℕ, zero, suc}
+use mathlib.Core.Path.{_≡_, refl, sym, _∙_, ap, subst}
+use mathlib.Core.List.{List, [], _∷_}
+use mathlib.Core.Logic.{∥∥₁-prop, ∥∥₁-elim, ∥∥₁-map}
+use prog.Memory.{Memory}
+use borrow.Fn.World.{World}
+use lib.ListN.{length}
 use Rattle.position.specs.declared.PositionSyntax.{PositionSyntax}
-use Rattle.validation.specs.Rank.{HaveRanks, ForParents, parents}
-use Rattle.scene.specs.declared.SceneAnswer.{SceneAnswer}
-use Rattle.scene.specs.Scene.{sceneReading, SceneAnswered}
-use Rattle.update.specs.Update.{updateReading}
-use Rattle.laws.proofs.Front.{words-front}
-use Rattle.claims.specs.Book.{Packet, packetOf, input, given, givenBy, bookScene, bookReading, kept, SceneWouldGive, PacketWouldGive}
-use Rattle.claims.proofs.Shapes.{scene-ranked, scene-refused, update-refused}
-use Rattle.claims.proofs.Book.{kept-by, SceneByRules, ByRules}
+use Rattle.book.specs.Step as book
+use Rattle.book.specs.Step.{Ran, ByStep, feds}
+use Rattle.book.specs.Book.{isAccepted, sceneStep, updateStep}
+use Rattle.book.proofs.Steps.{booked}
+use Rattle.book.proofs.Book.{first-ranked, update-leaves, shapes-many, shapes-ranked}
+use Rattle.book.proofs.Calls.{scene-by-step, update-by-step}
+use Rattle.runs.specs.Update.{allOf, countOf, used}
+use Rattle.runs.proofs.Update.{updates}
+use Rattle.claims.specs.Calls.{Call, Accepted, Next, Run, callOf, shapesLeft, Through, none, call, Owner, Called, ListClaim}
 
--- the answer of a call is the reading's, with the words of its counted fields
-answer-given : {A : Type 0} (bs : List ℕ) (rec : Bool) (ws : List ℕ) (q : Rule A) {a v : A} {r : Answer} {vs : List ℕ} →
-    Answered (reading (inputOf bs rec ws) q 0 0 0) a rec ws r v vs → givenBy rec r vs ≡ given rec (reading (inputOf bs rec ws) q 0 0 0)
-answer-given bs true ws q {vs = vs} m =
-    let x = reading (inputOf bs true ws) q 0 0 0 in
-    let front : vs ≡ encoded (x .fields) ++ drop (5 * length (x .fields)) ws = m .words ∙ words-front bs ws q 0 0 in
-    let counted : take (5 * length (x .fields)) vs ≡ encoded (x .fields) = rw front (take-at (encoded (x .fields)) _ _ (encoded-length (x .fields))) in
-    rw (m .answer) (ap (λ (l : List ℕ). record { answer = answerOf x; words = l }) counted)
-answer-given bs false ws q m = ap (λ (r : Answer). record { answer = r; words = [] }) (m .answer)
+module _ (w : World) where
+  -- a scene and a call are by their steps
+  pub accepted-by-step : (c : Call) (s : List PositionSyntax) (σ : Memory) → Accepted w c s σ → ByStep sceneStep [] c s
+  accepted-by-step c s σ a = rw (a .call-is, a .declared) (scene-by-step _ _ _ _ (a .run .answered))
 
--- where there are no positions there is nothing to rank
-none-ranked : HaveRanks []
-none-ranked = (λ i. 0, λ i d. absurd (omega (arith, d .from, d .to)))
+  run-by-step : {σ : Memory} {s : List PositionSyntax} (k : Next w σ s) (run : Run w k) →
+      ByStep updateStep s (callOf w k run) (shapesLeft w k run)
+  run-by-step {σ} {s} k run =
+      let at = used (k .form) (k .handed) (allOf (k .form) (k .handed)) in
+      let count = k .count-is ∙ ap length (k .found) in
+      let by = update-by-step _ (k .sent .offset) _ _ at (countOf (k .form) (k .handed)) (run .answered) count in
+      subst (λ (l : List PositionSyntax). ByStep updateStep l (callOf w k run) (shapesLeft w k run)) (sym (k .found)) by
 
-module _ (bs : List ℕ) (offset : ℕ) (rec : Bool) (ws : List ℕ) where
-  abbrev p : Packet
-  p = packetOf bs offset rec ws
+  called-by-step : (s : List PositionSyntax) (c : Call) (t : List PositionSyntax) → Called w s c t → ByStep updateStep s c t
+  called-by-step s c t k = rw (k .call-is, k .left-are) (run-by-step (k .next) (k .run))
 
-  module _ {r : SceneAnswer} {vs : List ℕ} (m : SceneAnswered (sceneReading (input p) offset) rec ws r vs) where
-    pub scene-by-rules : SceneByRules (record { packet = p; given = givenBy rec (r .answer) vs }) (take (r .count) (r .shapes))
-    scene-by-rules =
-        let P : List PositionSyntax → Type 0 = λ l. HaveRanks (parents l) in
-        record {
-          gives = answer-given bs rec ws _ (m .answered);
-          declares = m .answered .value;
-          ranked = subst P (sym (m .answered .value)) (kept-by P [] (bookScene p .result) none-ranked (scene-ranked (input p) offset));
-        }
+  -- calls through a memory are calls, each on the shapes that the one before left
+  pub through-ran : {σ ρ : Memory} {s t : List PositionSyntax} {cs : List Call} → Through w σ s cs ρ t → Ran (Called w) s cs t
+  through-ran none = book.none
+  through-ran {σ} (call k run r) = book.call (record { from = σ; next = k; run = run; call-is = refl; left-are = refl }) (through-ran r)
 
-    pub scene-count : r .count ≡ length (take (r .count) (r .shapes))
-    scene-count = m .count ∙ ap length (sym (m .answered .value))
+  pub list-claim : (scene : Call) (s t : List PositionSyntax) (σ : Memory) (cs : List Call) → Accepted w scene s σ → Ran (Called w) s cs t →
+      ListClaim w scene s cs t
+  list-claim scene s t σ cs a r =
+      let first = accepted-by-step scene s σ a in
+      let all = booked updateStep (Called w) called-by-step isAccepted update-leaves r in
+      record {
+        scene-is = first .tells;
+        first-are = first .leaves;
+        ranked = rw (all .state-is) (shapes-ranked (feds cs) s (rw (first .leaves) (first-ranked (scene .fed))));
+        as-many = rw (all .state-is) (shapes-many (feds cs) s);
+        booked = all;
+      }
 
-    pub scene-for-parents : (next : List PositionSyntax) → SceneWouldGive p next → ForParents (outcomeNumber (r .answer .outcome)) ↔ (¬ HaveRanks (parents next))
-    scene-for-parents next h = rw (m .answered .answer) (scene-refused (input p) offset next h)
-
-  module _ (s : List PositionSyntax) (count : ℕ) {r : Answer} {t : List PositionSyntax} {vs : List ℕ} (m : Answered (updateReading (input p) offset count s) s rec ws r t vs) where
-    pub update-by-rules : count ≡ length s → ByRules s (record { packet = p; given = givenBy rec r vs }) t
-    update-by-rules e =
-        let same : updateReading (input p) offset count s ≡ bookReading p s = ap (λ (n : ℕ). updateReading (input p) offset n s) e in
-        record {
-          gives = answer-given bs rec ws _ m ∙ ap (given rec) same;
-          leaves = m .value ∙ ap (λ (x : Reading (List PositionSyntax)). kept x s) same;
-        }
-
-    pub packet-for-parents : (next : List PositionSyntax) → PacketWouldGive p count s next → ForParents (outcomeNumber (r .outcome)) ↔ (¬ HaveRanks (parents next))
-    packet-for-parents next h = rw (m .answer) (update-refused (input p) offset count s next h)
+  -- whoever has a call to make after each call makes them all
+  pub makes : (n : ℕ) (σ : Memory) (s : List PositionSyntax) → Owner w n σ s →
+      ∥ ((cs : List Call) × (ρ : Memory) × (t : List PositionSyntax) × Through w σ s cs ρ t × (length cs ≡ n)) ∥₁
+  makes zero σ s o = ∣ ([], σ, s, none, refl) ∣₁
+  makes (suc n) σ s o =
+      let k = o .0 in
+      ∥∥₁-elim (updates w (k .form) (k .sent) (k .sendable) (k .handed) (k .handable) (k .memory) (k .beside) (k .has)) ∥∥₁-prop (λ run.
+      ∥∥₁-map (makes n (run .memory) (shapesLeft w k run) (o .1 run)) (λ rest.
+      (callOf w k run ∷ rest .0, rest .1, rest .2, call k run (rest .3), ap suc (rest .4))))

@@ -1,5 +1,6 @@
-pub mod Shapes
-pub mod Book
 pub mod Calls
-pub mod Returns
-pub mod Claim
+pub mod Any
+pub mod Demand
+pub mod Worked
+pub mod Show
+pub mod Listing

@@ -1,2 +1,4 @@
-pub mod Book
-pub mod Run
+pub mod Calls
+pub mod Demand
+pub mod Show
+pub mod Listing

@@ -13,7 +13,8 @@ use Rattle.scene.specs.Scene.{sceneFields, sceneGraph}
 use Rattle.update.specs.Update.{updateFields, graphUpdate, allShaped}
 use Rattle.compression.specs.Probability.{addFloat, floats}
 use Rattle.text.specs.Text.{ascii, decimalWithin, decimal, line}
-use Rattle.claims.specs.Book.{bookAnswers, bookShapes}
+use Rattle.book.specs.Step.{bookTold, bookState}
+use Rattle.book.specs.Book.{bookScene, bookReading, sceneStep, updateStep}
 use Rattle.show.specs.Header.{partCount, offsetOf, endOf, partOf, inOrder, isSound, fileQuestion}
 use Rattle.show.specs.Show.{partLine, partLines, positionLine, positionLines, packets, updatesText, restText, partsText, showText}
 use Rattle.text.specs.Table as t
@@ -25,5 +26,5 @@ use Rattle.listing.specs.Listing.{placeText, valueText, fieldLine, endLine, out
 use Rattle.examples.specs.Rows.{AllHold, rows}
 
 pub all-rows : AllHold rows
-unfolding bitAt bitsAt _>>=_ position end bits skip setEnd field reading take flag parts escaped passiveBits passiveValues each fold demand remaining count drcCount entry p.dynamics p.precisions p.header p.changed p.newParent p.parent p.range p.flagUnless p.coordinateValues p.coordinates p.coordinatesIfPresent p.rotationValues p.rotation p.extensionBody p.extension p.extensions p.extensionsIfPresent p.beforeRange p.afterRange p.position climb judge verdict validateGraph updatedPosition positionAt positions sceneFields sceneGraph updateFields graphUpdate allShaped bookAnswers bookShapes ascii decimalWithin decimal partCount offsetOf endOf partOf inOrder isSound fileQuestion line partLine partLines positionLine positionLines packets updatesText restText partsText showText t.row blocks leaves character indexed blockText leafText nameText meanings upToBar meaning shapesBefore updateListed soundListed partListed placeText valueText fieldLine endLine outcomeText fieldLines addFloat floats ofBits add lt eq
+unfolding bitAt bitsAt _>>=_ position end bits skip setEnd field reading take flag parts escaped passiveBits passiveValues each fold demand remaining count drcCount entry p.dynamics p.precisions p.header p.changed p.newParent p.parent p.range p.flagUnless p.coordinateValues p.coordinates p.coordinatesIfPresent p.rotationValues p.rotation p.extensionBody p.extension p.extensions p.extensionsIfPresent p.beforeRange p.afterRange p.position climb judge verdict validateGraph updatedPosition positionAt positions sceneFields sceneGraph updateFields graphUpdate allShaped bookTold bookState bookScene bookReading sceneStep updateStep ascii decimalWithin decimal partCount offsetOf endOf partOf inOrder isSound fileQuestion line partLine partLines positionLine positionLines packets updatesText restText partsText showText t.row blocks leaves character indexed blockText leafText nameText meanings upToBar meaning shapesBefore updateListed soundListed partListed placeText valueText fieldLine endLine outcomeText fieldLines addFloat floats ofBits add lt eq
 all-rows = (refl, (refl, (refl, (refl, (refl, (refl, (refl, (refl, (refl, (refl, (refl, (refl, (refl, (refl, (refl, (refl, (refl, tt)))))))))))))))))

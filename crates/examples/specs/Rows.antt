@@ -15,7 +15,7 @@ use Rattle.rules.specs.Answer.{outcomeOf, valueOr}
 use Rattle.validation.specs.Rank.{parents}
 use Rattle.compression.specs.Probability.{floats}
 use Rattle.text.specs.Text.{ascii}
-use Rattle.claims.specs.Book.{Packet, packetOf, bookScene, bookFirst, bookReading, bookShapes}
+use Rattle.book.specs.Book.{Packet, packetOf, bookScene, bookFirst, bookReading, bookShapes}
 use Rattle.show.specs.Header.{fileQuestion}
 use Rattle.show.specs.Show.{packet, showText, fileOutcome}
 use Rattle.part.specs.Part.{partListed}

@@ -10,13 +10,15 @@ use Rattle.rules.specs.declared.Answer.{Answer}
 use Rattle.rules.specs.declared.Outcome.the-variants.{Refused}
 use Rattle.rules.specs.Reading.{Reading, isRead}
 use Rattle.rules.specs.Words.{encoded, recorded}
-use Rattle.rules.specs.Answer.{answerOf, Answered}
+use Rattle.rules.specs.Answer.{Answered}
 use Rattle.position.specs.declared.PositionSyntax.{PositionSyntax}
 use Rattle.scene.specs.declared.SceneAnswer.{SceneAnswer}
 use Rattle.scene.specs.Scene.{SceneAnswered}
 use Rattle.update.specs.declared.UpdateAnswer.{UpdateAnswer}
 use Rattle.update.specs.Update.{UpdateAnswered}
-use Rattle.claims.specs.Book.{bookScene, bookReading, kept, bookShapes}
+use Rattle.book.specs.Step.{bookState}
+use Rattle.book.specs.Book.{isAccepted, bookScene, bookReading, sceneStep, bookShapes}
+use Rattle.book.proofs.Book.{scene-answer, scene-declares, update-left}
 use Rattle.show.specs.Header.{partCount, fileQuestion}
 use Rattle.show.specs.Show.{packet, packets}
 use Rattle.part.specs.declared.PartAnswer.{PartAnswer}
@@ -25,13 +27,13 @@ use Rattle.part.specs.Part.{listed, unlisted, shapesBefore, partFrom, up
 
 -- the shapes that the parts from i up to k leave: one of them, and those after it
 module _ (file : List ℕ) (k i : ℕ) (s : List PositionSyntax) where
-  pub shapes-more : i < k → {t : List PositionSyntax} → t ≡ kept (bookReading (packet file i) s) s →
+  pub shapes-more : i < k → {a : Answer} {t : List PositionSyntax} {vs : List ℕ} → Answered (bookReading (packet file i) s) s false [] a t vs →
       bookShapes (packets file (k - (i + 1)) (i + 1)) t ≡ bookShapes (packets file (k - i) i) s
-  unfolding packets bookShapes
-  shapes-more h e = let more : k - i ≡ suc (k - (i + 1)) = omega arith in rw (more, e)
+  unfolding packets bookState
+  shapes-more h y = let more : k - i ≡ suc (k - (i + 1)) = omega arith in rw (more, update-left (packet file i) y)
 
   pub shapes-end : k ≤ i → s ≡ bookShapes (packets file (k - i) i) s
-  unfolding packets bookShapes
+  unfolding packets bookState
   shapes-end h = let none : k - i ≡ 0 = omega arith in rw none
 
 -- the answer of a reading, and of a part that is not read: its words are left alone
@@ -45,8 +47,8 @@ unread-answered = record { answer = refl; words = refl }
 
 -- whether the scene was read, by its answer
 scene-told : (file : List ℕ) {scene : SceneAnswer} {us : List ℕ} → SceneAnswered (bookScene (packet file 0)) false [] scene us → {b : Bool} →
-    isRead (scene .answer .outcome) ≡ b → isRead (answerOf (bookScene (packet file 0)) .outcome) ≡ b
-scene-told file y h = rw (y .answered .answer) at h
+    isRead (scene .answer .outcome) ≡ b → isAccepted (sceneStep (packet file 0) [] .told) ≡ b
+scene-told file y h = rw (scene-answer (packet file 0) y) at h
 
 module _ (file : List ℕ) (k offset : ℕ) {ws : List ℕ} where
   -- an update, by what the scene answered, and the shapes that the parts between them left
@@ -57,7 +59,7 @@ module _ (file : List ℕ) (k offset : ℕ) {ws : List ℕ} where
         PartAnswered (updateListed file k (partFrom file k offset ws)) ws (Ended (r .answer)) vs
     unfolding updateListed shapesBefore
     update-answered h e z =
-        let before = e ∙ ap (bookShapes (packets file (k - 1) 1)) (y .answered .value) in
+        let before = e ∙ ap (bookShapes (packets file (k - 1) 1)) (scene-declares (packet file 0) y) in
         rw (scene-told file y h, ← before) (read-answered (z .answered))
 
     pub scene-unread : isRead (scene .answer .outcome) ≡ false → PartAnswered (updateListed file k (partFrom file k offset ws)) ws NoScene ws

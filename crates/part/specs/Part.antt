@@ -6,11 +6,11 @@ use mathlib.Core.Bool.{true}
 use lib.Dec.{eqb, ltb}
 use Rattle.rules.specs.declared.Field.{Field}
 use Rattle.rules.specs.Rule.{pick, refused}
-use Rattle.rules.specs.Reading.{Reading, endedAt, isRead}
+use Rattle.rules.specs.Reading.{Reading, endedAt}
 use Rattle.rules.specs.Words.{recorded}
 use Rattle.rules.specs.Answer.{answerOf}
 use Rattle.position.specs.declared.PositionSyntax.{PositionSyntax}
-use Rattle.claims.specs.Book.{Packet, packetOf, bookScene, bookFirst, bookReading, bookShapes}
+use Rattle.book.specs.Book.{Packet, packetOf, isAccepted, bookScene, bookReading, sceneStep, bookFirst, bookShapes}
 use Rattle.show.specs.Header.{partCount, partOf, fileQuestion}
 use Rattle.show.specs.Show.{packet, packets}
 use Rattle.part.specs.declared.PartAnswer.{PartAnswer}
@@ -39,7 +39,7 @@ partFrom file k offset ws = packetOf (partOf file k) offset true ws
 -- What is listed of part k, read as the packet p: of an update, if the show reads part 0; ..
 unfoldable pub updateListed : List ℕ → ℕ → Packet → Listed
 updateListed file k p =
-    pick (isRead (answerOf (bookScene (packet file 0)) .outcome))
+    pick (isAccepted (sceneStep (packet file 0) [] .told))
     (listed (bookReading p (shapesBefore file k)))
     (unlisted NoScene)
 

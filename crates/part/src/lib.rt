@@ -5,7 +5,7 @@ use rules::Outcome;
 ghost use mathlib.Core.Path.{_≡_};
 ghost use Prim.Native.Nat.{_-_, _≤_, _<_};
 ghost use lib.ListN.{take};
-ghost use Rattle.claims.specs.Book.{bookShapes};
+ghost use Rattle.book.specs.Book.{bookShapes};
 ghost use Rattle.show.specs.Header.{HeaderSound, partCount};
 ghost use Rattle.show.specs.Show.{packets};
 ghost use Rattle.part.specs.Part.{partFrom, updateListed, soundListed, partListed, PartAnswered};

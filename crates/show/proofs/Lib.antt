@@ -2,4 +2,3 @@ pub mod Sound
 pub mod Answers
 pub mod Texts
 pub mod Room
-pub mod Claim

@@ -11,12 +11,12 @@ use Rattle.rules.specs.declared.Answer.{Answer}
 use Rattle.rules.specs.declared.Outcome.{Outcome}
 use Rattle.rules.specs.declared.Outcome.the-variants.{Read, Refused, Stopped}
 use Rattle.rules.specs.Reading.{isRead}
-use Rattle.rules.specs.Answer.{answerOf}
 use Rattle.rules.proofs.Pick.{by-pick}
 use Rattle.position.specs.declared.PositionSyntax.{PositionSyntax}
 use Rattle.validation.specs.Rank.{parents, parentOf, rankOf}
-use Rattle.claims.specs.Book.{Packet, Given, bookScene, bookFirst, bookAnswers, bookShapes}
-use Rattle.claims.proofs.Book.{shapes-many, answers-many, first-many}
+use Rattle.book.specs.Book.{Packet, Given, sceneStep, updateStep, bookFirst, bookAnswers, bookShapes}
+use Rattle.book.proofs.Steps.{told-many}
+use Rattle.book.proofs.Book.{shapes-many, first-many}
 use Rattle.text.specs.Text.{ascii, line, Put}
 use Rattle.text.proofs.Lines.{widest, line-most}
 use Rattle.text.proofs.Puts.{put-long}
@@ -73,7 +73,7 @@ updates-most k ps s =
     let c = positions-most (parents left) (length (parents left)) 0 in
     let d = length-map left (λ (sh : PositionSyntax). sh .parent) in
     let e = shapes-many ps s in
-    let f = answers-many ps s in
+    let f = told-many updateStep ps s in
     omega arith
 
 rest-most : (file : List ℕ) → isSound file ≡ true → (scene : Answer) → length (restText file scene (bookFirst (packet file 0))) ≤ 84 * 255 + 84 * 63
@@ -98,7 +98,7 @@ rest-most file t scene = by (isRead (scene .outcome)) refl
 parts-text-most : (file : List ℕ) → isSound file ≡ true → length (partsText file) ≤ 32768
 unfolding partsText
 parts-text-most file t =
-    let scene = answerOf (bookScene (packet file 0)) in
+    let scene = sceneStep (packet file 0) [] .told .answer in
     let a = length-append (partLine 0 scene) (restText file scene (bookFirst (packet file 0))) in
     let b = part-most 0 scene in
     let c = rest-most file t scene in

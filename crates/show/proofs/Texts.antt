@@ -2,13 +2,16 @@
 use Prim.Native.Nat.{ℕ, suc, _+_, _-_, _<_, _≤_}
 use mathlib.Core.Path.{_≡_}
 use mathlib.Core.List.{List, [], _++_, append-assoc}
+use mathlib.Core.Bool.{false}
 use native.Mathlib.Omega.{arith}
 use lib.ListN.{length, getD}
 use Rattle.rules.specs.declared.Answer.{Answer}
-use Rattle.rules.specs.Answer.{answerOf}
+use Rattle.rules.specs.Answer.{Answered}
 use Rattle.position.specs.declared.PositionSyntax.{PositionSyntax}
 use Rattle.validation.specs.Rank.{rankOf}
-use Rattle.claims.specs.Book.{bookReading, kept, bookAnswers, bookShapes}
+use Rattle.book.specs.Step.{bookTold, bookState}
+use Rattle.book.specs.Book.{bookReading, updateStep}
+use Rattle.book.proofs.Book.{update-answer, update-left}
 use Rattle.show.specs.Show.{partLine, partLines, positionLine, positionLines, allPositions, packet, packets, updatesText}
 
 module _ (ps : List ℕ) (i : ℕ) where
@@ -27,13 +30,13 @@ module _ (ps : List ℕ) (i : ℕ) where
 
 module _ (file : List ℕ) (n k : ℕ) (s : List PositionSyntax) where
   -- one update, and what follows it
-  pub update-more : k < n → {a : Answer} {t : List PositionSyntax} → a ≡ answerOf (bookReading (packet file k) s) → t ≡ kept (bookReading (packet file k) s) s →
+  pub update-more : k < n → {a : Answer} {t : List PositionSyntax} {vs : List ℕ} → Answered (bookReading (packet file k) s) s false [] a t vs →
       updatesText k (packets file (n - k) k) s ≡ partLine k a ++ updatesText (k + 1) (packets file (n - (k + 1)) (k + 1)) t
-  unfolding updatesText packets partLines bookAnswers bookShapes
-  update-more h p q =
+  unfolding updatesText packets partLines bookTold bookState
+  update-more h y =
       let more : n - k ≡ suc (n - (k + 1)) = omega arith in
-      rw (more, p, q) (append-assoc (partLine k (answerOf (bookReading (packet file k) s))) _ _)
+      rw (more, update-answer (packet file k) y, update-left (packet file k) y) (append-assoc (partLine k (updateStep (packet file k) s .told .answer)) _ _)
 
   pub update-end : n ≤ k → updatesText k (packets file (n - k) k) s ≡ allPositions s
-  unfolding updatesText packets partLines bookAnswers bookShapes
+  unfolding updatesText packets partLines bookTold bookState
   update-end h = let none : n - k ≡ 0 = omega arith in rw none

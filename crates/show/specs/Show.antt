@@ -11,10 +11,9 @@ use Rattle.rules.specs.declared.Outcome.{Outcome}
 use Rattle.rules.specs.declared.Outcome.the-variants.{Read, Refused, Stopped}
 use Rattle.rules.specs.Rule.{pick}
 use Rattle.rules.specs.Reading.{isRead}
-use Rattle.rules.specs.Answer.{answerOf}
 use Rattle.position.specs.declared.PositionSyntax.{PositionSyntax}
 use Rattle.validation.specs.Rank.{parents, parentOf, rankOf}
-use Rattle.claims.specs.Book.{Packet, packetOf, Given, bookScene, bookFirst, bookAnswers, bookShapes}
+use Rattle.book.specs.Book.{Packet, packetOf, Given, sceneStep, bookAnswers, bookShapes}
 use Rattle.text.specs.declared.TextAnswer.{TextAnswer}
 use Rattle.text.specs.Text.{line, Put}
 use Rattle.show.specs.Header.{partCount, partOf, fileQuestion}
@@ -62,8 +61,8 @@ restText file scene s = pick (isRead (scene .outcome)) (updatesText 1 (packets f
 
 unfoldable pub partsText : List ℕ → List ℕ
 partsText file =
-    let scene = answerOf (bookScene (packet file 0)) in
-    partLine 0 scene ++ restText file scene (bookFirst (packet file 0))
+    let scene = sceneStep (packet file 0) [] in
+    partLine 0 (scene .told .answer) ++ restText file (scene .told .answer) (scene .left)
 
 unfoldable pub showText : List ℕ → List ℕ
 showText file = pick (eqb (fileQuestion file) 0) (partsText file) (line (("file refused ", fileQuestion file) ∷ []))

@@ -11,7 +11,7 @@ ghost use Prim.Native.Nat.{_+_, _-_, _≤_, _<_};
 ghost use lib.ListN.{length, take};
 ghost use Rattle.scene.specs.Scene.{SceneAnswered};
 ghost use Rattle.update.specs.Update.{UpdateAnswered};
-ghost use Rattle.claims.specs.Book.{packetOf, bookScene, bookReading};
+ghost use Rattle.book.specs.Book.{packetOf, bookScene, bookReading};
 ghost use Rattle.text.specs.Text.{Put};
 ghost use Rattle.show.specs.Header.{HeaderSound, partCount, partOf};
 ghost use Rattle.show.specs.Show.{positionLines, allPositions, packets, updatesText, restText, partsText, ShowAnswered};

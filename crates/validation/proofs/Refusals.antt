@@ -4,7 +4,7 @@ use Prim.Native.Nat.{ℕ}
 use mathlib.Core.Path.{_≡_, refl, sym, _∙_, subst}
 use mathlib.Core.List.{List}
 use mathlib.Core.Bool.{Bool, true, false}
-use mathlib.Core.Logic.{_↔_}
+use mathlib.Core.Logic.{_↔_, Iff·rfl, Iff·trans, ⊎-elim}
 use native.Mathlib.Omega.{arith}
 use native.Mathlib.Decide.{ℕ-discrete}
 use borrow.Author.Tests.{ne-eqb}
@@ -12,11 +12,11 @@ use lib.Dec.{eqb}
 use Rattle.rules.specs.Rule.{Rule, done, End, refused, _>>=_, pick}
 use Rattle.rules.specs.Reading.{Result, read, ended, Input, reading}
 use Rattle.rules.specs.Derived.{demand}
-use Rattle.rules.specs.Answer.{outcomeOf, outcomeNumber}
+use Rattle.rules.specs.Answer.{outcomeOf}
 use Rattle.rules.proofs.Bind.{bind}
 use Rattle.position.specs.declared.PositionSyntax.{PositionSyntax}
 use Rattle.validation.specs.Rank.{parents, verdict, HaveRanks, ForParents}
-use Rattle.validation.specs.Validation.{validateGraph, ifValid}
+use Rattle.validation.specs.Validation.{validateGraph, ifValid, RefusedForParents}
 use Rattle.validation.proofs.Ranks.{accepts, for-parents}
 
 -- what shapes come to by their number
@@ -32,12 +32,16 @@ unfolding reading demand _>>=_
 demanded a i true z p e n = refl
 demanded a i false z p e n = refl
 
-number-of : {A : Type 0} (n : ℕ) (a : A) → outcomeNumber (outcomeOf (byNumber n a)) ≡ n
-number-of n a = by (ℕ-discrete n 0)
+-- it is refused for them exactly if the number is one of theirs
+not-zero : ForParents 0 → ⊥
+not-zero f = ⊎-elim (λ e. omega arith) (λ e. omega arith) f
+
+by-number : {A : Type 0} (n : ℕ) (a : A) → RefusedForParents (outcomeOf (byNumber n a)) ↔ ForParents n
+by-number n a = by (ℕ-discrete n 0)
   where
-    by : Dec (n ≡ 0) → outcomeNumber (outcomeOf (byNumber n a)) ≡ n
-    by (yes e) = rw e
-    by (no d) = rw (ne-eqb _ _ d)
+    by : Dec (n ≡ 0) → RefusedForParents (outcomeOf (byNumber n a)) ↔ ForParents n
+    by (yes e) = rw e (λ z. absurd z, not-zero)
+    by (no d) = rw (ne-eqb _ _ d) Iff·rfl
 
 module _ (i : Input) (r : Rule (List PositionSyntax)) (p e n : ℕ) where
   -- a rule that is read to its end is left to its number; one that has ended stays so
@@ -50,8 +54,8 @@ module _ (i : Input) (r : Rule (List PositionSyntax)) (p e n : ℕ) where
   cut z h = rw (bind i r ifValid p e n, h)
 
   pub refused-for-parents : (next : List PositionSyntax) → reading i r p e n .result ≡ read next →
-      ForParents (outcomeNumber (outcomeOf (reading i (r >>= ifValid) p e n .result))) ↔ (¬ HaveRanks (parents next))
-  refused-for-parents next h = rw (whole next h, number-of) (for-parents (parents next))
+      RefusedForParents (outcomeOf (reading i (r >>= ifValid) p e n .result)) ↔ (¬ HaveRanks (parents next))
+  refused-for-parents next h = rw (whole next h) (Iff·trans (by-number (verdict (parents next)) next) (for-parents (parents next)))
 
   -- and shapes that it gives have ranks
   pub read-has-ranks : (l : List PositionSyntax) → reading i (r >>= ifValid) p e n .result ≡ read l → HaveRanks (parents l)

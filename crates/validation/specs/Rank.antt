@@ -78,7 +78,7 @@ pub data Judged (ps : List ℕ) (n : ℕ) : Type 0 where
   first-out : (i : ℕ) → Declared ps i → RankedBefore ps i → GoesOut ps i → n ≡ 8 → Judged ps n
   first-round : (i : ℕ) → Declared ps i → RankedBefore ps i → GoesRound ps i → n ≡ 9 → Judged ps n
 
--- refused for its parents
+-- the numbers of a refusal for its parents
 abbrev pub ForParents : ℕ → Type 0
 ForParents n = (n ≡ 8) ⊎ (n ≡ 9)
 

@@ -2,10 +2,9 @@
 use crate::by_hand;
 use crate::rows::{Reading, Row};
 use crate::sides::{Port, Rust, words};
-use gateway::Outcome;
 use oracle::answer::{Answer, Verdict};
 use oracle::request::{Call, Request};
-use port::compare;
+use port::{compare, library};
 
 /// The answer to a row, with its shapes, and its fields if recorded. It must be that of all sides, and
 /// of the calls that are timed.
@@ -42,11 +41,6 @@ fn hold_calls(row: &Row, recording: bool, answer: &Answer) {
 }
 
 fn hold_port(by_port: gateway::Answer, answer: &Answer) {
-    let number = match by_port.outcome {
-        Outcome::Read => 0,
-        Outcome::Refused(number) | Outcome::Stopped(number) => number,
-    };
-    assert_eq!(number, u64::from(answer.verdict.number));
-    assert_eq!(by_port.position as u64, answer.verdict.position);
+    assert_eq!(library::verdict(by_port), Ok(answer.verdict.clone()));
     assert_eq!(by_port.counted, answer.count);
 }

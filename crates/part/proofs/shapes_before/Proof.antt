@@ -2,7 +2,7 @@ use Prim.Native.Nat.{_-_}
 use mathlib.Core.Path.{_≡_, refl, _∙_}
 use borrow.Author.Needs.{needs}
 use lib.ListN.{take}
-use Rattle.claims.specs.Book.{bookShapes}
+use Rattle.book.specs.Book.{bookShapes}
 use Rattle.show.specs.Show.{packets}
 use Rattle.part.proofs.Answers.{shapes-more, shapes-end}
 use Rattle.part.proofs.shapes_before.Statement.{statement}
@@ -34,7 +34,7 @@ loop-again : tie.Need-loop-again Inv-loop μ-loop
 loop-again c =
     let updated = c .before .before in
     let at-test = updated .before .before in
-    shapes-more _ _ _ _ (at-test .loop-test .taken) (updated .update-part .ensures .answered .value) ∙ at-test .before .loop .inv
+    shapes-more _ _ _ _ (at-test .loop-test .taken) (updated .update-part .ensures .answered) ∙ at-test .before .loop .inv
 
 returns : tie.Need-returns Inv-loop μ-loop
 returns c = shapes-end _ _ _ _ (c .loop-test .left) ∙ c .before .loop .inv

@@ -37,8 +37,7 @@ put-part-requires c κs =
     let at-test = updated .before .before in
     let at-loop = at-test .before in
     let given = at-loop .before .before .before .before in
-    let answered = updated .update-part .ensures .answered in
-    let here = update-more _ _ _ (take (given .args .count) (at-loop .loop .next)) (at-test .loop-test .taken) (answered .answer) (answered .value) in
+    let here = update-more _ _ _ (take (given .args .count) (at-loop .loop .next)) (at-test .loop-test .taken) (updated .update-part .ensures .answered) in
     room-left (partLine _ _) _ (rw here at (at-loop .loop .inv)) (rw (← at-loop .before .part-count .ensures) at (given .pre .1 .1))
 
 add-k : tie.Need-add-k Inv-loop μ-loop
@@ -53,8 +52,7 @@ loop-again c =
     let at-test = updated .before .before in
     let at-loop = at-test .before in
     let given = at-loop .before .before .before .before in
-    let answered = updated .update-part .ensures .answered in
-    let here = update-more _ _ _ (take (given .args .count) (at-loop .loop .next)) (at-test .loop-test .taken) (answered .answer) (answered .value) in
+    let here = update-more _ _ _ (take (given .args .count) (at-loop .loop .next)) (at-test .loop-test .taken) (updated .update-part .ensures .answered) in
     less-left (rw here at (at-loop .loop .inv)) (c .before .before .put-part .ensures)
 
 put-shapes-requires : tie.Need-put-shapes-requires Inv-loop μ-loop

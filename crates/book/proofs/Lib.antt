@@ -1,0 +1,4 @@
+pub mod Steps
+pub mod Shapes
+pub mod Book
+pub mod Calls

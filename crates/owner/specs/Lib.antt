@@ -1,0 +1,3 @@
+pub mod Cells
+pub mod Machine
+pub mod Holds

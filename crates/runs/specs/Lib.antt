@@ -1,0 +1,6 @@
+pub mod Sent
+pub mod Scene
+pub mod Update
+pub mod Metadata
+pub mod Show
+pub mod Line
