@@ -4,7 +4,7 @@ use mathlib.Core.Path.{_≡_, refl, sym, _∙_, ap, ap₂}
 use mathlib.Core.Bool.{Bool, true, false}
 use mathlib.Core.List.{List, [], _∷_, _++_}
 use lib.ListN.{length}
-use Rattle.book.specs.Step.{Step, bookTold, bookState, Leaves, Keeps, Call, feds, tolds, accepted, Ran, none, call, ByStep, Booked}
+use Rattle.book.specs.Step.{Step, bookTold, bookState, Leaves, Keeps, Call, allFed, allTold, accepted, Ran, none, call, ByStep, Booked}
 
 -- what each step keeps holds after any list
 pub kept : {P S T : Type 0} (step : Step P S T) (I : S → Type 0) → Keeps step I → (ps : List P) (s : S) → I s → I (bookState step ps s)
@@ -25,8 +25,8 @@ module _ {P T : Type 0} (accepts : T → Bool) (c : Call P T) (cs : List (Call P
 module _ {P S T : Type 0} (step : Step P S T) where
   -- the book on the calls `cs` alone tells what they told, and has the state t
   record Same (s : S) (cs : List (Call P T)) (t : S) : Type 0 where
-    same-told : tolds cs ≡ bookTold step (feds cs) s
-    same-state : t ≡ bookState step (feds cs) s
+    same-told : allTold cs ≡ bookTold step (allFed cs) s
+    same-state : t ≡ bookState step (allFed cs) s
 
   same-none : (s : S) → Same s [] s
   unfolding bookTold bookState
@@ -35,8 +35,8 @@ module _ {P S T : Type 0} (step : Step P S T) where
   same-more : {s m t : S} {c : Call P T} {cs : List (Call P T)} → ByStep step s c m → Same m cs t → Same s (c ∷ cs) t
   unfolding bookTold bookState
   same-more {cs = cs} q a = record {
-    same-told = ap₂ (λ (g : T) (gs : List T). g ∷ gs) (q .tells) (a .same-told ∙ ap (bookTold step (feds cs)) (q .leaves));
-    same-state = a .same-state ∙ ap (bookState step (feds cs)) (q .leaves);
+    same-told = ap₂ (λ (g : T) (gs : List T). g ∷ gs) (q .tells) (a .same-told ∙ ap (bookTold step (allFed cs)) (q .leaves));
+    same-state = a .same-state ∙ ap (bookState step (allFed cs)) (q .leaves);
   }
 
   module _ {ℓ} (Run : S → Call P T → S → Type ℓ) (by-step : (s : S) (c : Call P T) (t : S) → Run s c t → ByStep step s c t) where

@@ -35,11 +35,11 @@ pub record Call (P T : Type 0) : Type 0 where
   pub fed : P
   pub told : T
 
-abbrev pub feds : {P T : Type 0} → List (Call P T) → List P
-feds = map (λ c. c .fed)
+abbrev pub allFed : {P T : Type 0} → List (Call P T) → List P
+allFed = map (λ c. c .fed)
 
-abbrev pub tolds : {P T : Type 0} → List (Call P T) → List T
-tolds = map (λ c. c .told)
+abbrev pub allTold : {P T : Type 0} → List (Call P T) → List T
+allTold = map (λ c. c .told)
 
 -- the calls that were accepted, in their order
 unfoldable pub accepted : {P T : Type 0} → (T → Bool) → List (Call P T) → List (Call P T)
@@ -61,12 +61,12 @@ pub record ByStep {P S T : Type 0} (step : Step P S T) (s : S) (c : Call P T) (t
 pub record Booked {ℓ} {P S T : Type 0} (step : Step P S T) (accepts : T → Bool) (Run : S → Call P T → S → Type ℓ)
     (s : S) (cs : List (Call P T)) (t : S) : Type ℓ where
   -- every answer and every state, the last one and those on the way, are the book's
-  pub told-are : tolds cs ≡ bookTold step (feds cs) s
-  pub state-is : t ≡ bookState step (feds cs) s
+  pub told-are : allTold cs ≡ bookTold step (allFed cs) s
+  pub state-is : t ≡ bookState step (allFed cs) s
   pub states-are : (first rest : List (Call P T)) → cs ≡ first ++ rest →
-      (m : S) × Ran Run s first m × Ran Run m rest t × (m ≡ bookState step (feds first) s)
+      (m : S) × Ran Run s first m × Ran Run m rest t × (m ≡ bookState step (allFed first) s)
   -- the accepted calls alone, as they went, stand one after another from the same state to the same state
   pub alone-ran : Ran Run s (accepted accepts cs) t
   -- and those that are fed what the accepted calls were, however they are made, tell the same and leave the same state
-  pub alone : (ds : List (Call P T)) (u : S) → feds ds ≡ feds (accepted accepts cs) → Ran Run s ds u →
-      (tolds ds ≡ tolds (accepted accepts cs)) × (u ≡ t)
+  pub alone : (ds : List (Call P T)) (u : S) → allFed ds ≡ allFed (accepted accepts cs) → Ran Run s ds u →
+      (allTold ds ≡ allTold (accepted accepts cs)) × (u ≡ t)

@@ -28,7 +28,7 @@ use Rattle.owner.specs.Cells.{Cells, refilled, at-block, Slice}
 use Rattle.owner.specs.Machine.{Writes, nothing}
 use Rattle.owner.specs.Holds.{_⊨_}
 use Rattle.owner.proofs.Cells.{writes-on, stores-write, all-numbers, lay, refills}
-use Rattle.runs.specs.Sent.{Variant, Sent, Sendable, AllFit, Bytes, Words, Shapes, Lying}
+use Rattle.runs.specs.Sent.{Variant, Sent, SentFits, AllFit, Bytes, Words, Shapes, SentInCells}
 use Rattle.runs.specs.Scene.{SceneRead}
 use Rattle.runs.specs.Update.{Form, by-value, lent, Counted, allOf}
 use Rattle.runs.proofs.Sent.{all-shapes}
@@ -86,9 +86,9 @@ module _ (w : World) where
     sent : Sent
     memory : Memory
     wrote : Writes ρ memory
-    sendable : Sendable sent
+    sent-fits : SentFits sent
     packet-is : packetSent sent ≡ packetWanted q
-    has : _⊨_ w memory (Lying w sent (sent .words .held) P)
+    has : _⊨_ w memory (SentInCells w sent (sent .words .held) P)
 
   puts : {F : Type 0} (q : Wanted F) → Possible q → (ρ : Memory) (P : SProp 𝓤) → _⊨_ w ρ P → ∥ Put q ρ P ∥₁
   puts q ok ρ P s =
@@ -104,7 +104,7 @@ module _ (w : World) where
         };
         memory = u .0;
         wrote = writes-on (t .1) (u .1);
-        sendable = record { bytes = ok .bytes-fit; offset = ok .offset; words = ok .words-fit };
+        sent-fits = record { bytes = ok .bytes-fit; offset = ok .offset; words = ok .words-fit };
         packet-is = refl;
         has = u .2;
       }))
@@ -125,7 +125,7 @@ module _ (w : World) where
 
   -- after a call that left lent shapes in these cells, and after one that gave them back by value, which are stored there
   module _ (p : Sent) (ws : List ℕ) (d : Cells PositionSyntax) (σ : Memory) (B : SProp 𝓤)
-      (holds : _⊨_ w σ (Lying w p ws (Shapes w d ∗ B))) where
+      (holds : _⊨_ w σ (SentInCells w p ws (Shapes w d ∗ B))) where
     abbrev others : SProp 𝓤
     others = Bytes w (p .share) (p .bytes) ∗ Words w (refilled (p .words) ws) ∗ B
 
@@ -176,8 +176,8 @@ module _ (w : World) where
       memory = g .memory;
       beside = Shapes w (held r) ∗ r .beside;
       wrote = writes-on (r .wrote) (g .wrote);
-      sendable = g .sendable;
-      handable = record {
+      sent-fits = g .sent-fits;
+      handed-fits = record {
         all = array-full s (r .few);
         fit = fit-append s _ (r .fit) (fit-defaults (63 - length s));
         count = omega (arith, r .few);
@@ -201,8 +201,8 @@ module _ (w : World) where
       memory = g .memory;
       beside = r .beside;
       wrote = writes-on (r .wrote) (g .wrote);
-      sendable = g .sendable;
-      handable = few-slice (held r) (r .few);
+      sent-fits = g .sent-fits;
+      handed-fits = few-slice (held r) (r .few);
       has = g .has;
       count-is = refl;
       found = refl;
@@ -221,7 +221,7 @@ module _ (w : World) where
       ∥∥₁-elim (puts q (ok .0) (r .memory) (Shapes w (held r) ∗ r .beside) (r .has)) ∥∥₁-prop (λ g.
       let m = makes q r g (q .form) refl in
       let k = m .next in
-      ∥∥₁-elim (updates w (k .form) (k .sent) (k .sendable) (k .handed) (k .handable) (k .memory) (k .beside) (k .has)) ∥∥₁-prop (λ run.
+      ∥∥₁-elim (updates w (k .form) (k .sent) (k .sent-fits) (k .handed) (k .handed-fits) (k .memory) (k .beside) (k .has)) ∥∥₁-prop (λ run.
       ∥∥₁-elim (m .then run) ∥∥₁-prop (λ next.
       ∥∥₁-map (sends qs (ok .1) next) (λ rest. record {
         calls = callOf w k run ∷ rest .calls;
@@ -237,7 +237,7 @@ module _ (w : World) where
   ready scene s σ a =
       let run = a .run in
       let fit : AllFit s = rw (a .declared) (fit-take (run .answer .count) (run .answer .shapes) (run .shapes-fit)) in
-      let rest = Lying w (a .sent) (run .words) (a .beside) in
+      let rest = SentInCells w (a .sent) (run .words) (a .beside) in
       ∥∥₁-map (lay w σ rest shape.mir (map shape.lowered s) (all-shapes s fit) (rw (a .leaves) (run .holds))) (λ t. record {
         block = length σ;
         offset = 0;
@@ -259,5 +259,5 @@ module _ (w : World) where
   any-scene q ok =
       let nothing-else = sep 𝓤 (bytes-run 𝓤 (w .H) fullShare w8 0 0 []) (bytes-run 𝓤 (w .H) fullShare w8 1 0 []) in
       ∥∥₁-elim (puts q ok (startMem [] []) nothing-else (start-satisfies 𝓤 (w .H) (w .𝓜) [] [] tt tt)) ∥∥₁-prop (λ g.
-      ∥∥₁-map (scene-reads w (q .form) (g .sent) (g .sendable) (g .memory) nothing-else (g .has)) (λ run.
+      ∥∥₁-map (scene-reads w (q .form) (g .sent) (g .sent-fits) (g .memory) nothing-else (g .has)) (λ run.
       (g .sent, g .memory, nothing-else, g .packet-is, run)))

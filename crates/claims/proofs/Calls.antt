@@ -8,7 +8,7 @@ use borrow.Fn.World.{World}
 use lib.ListN.{length}
 use Rattle.position.specs.declared.PositionSyntax.{PositionSyntax}
 use Rattle.book.specs.Step as book
-use Rattle.book.specs.Step.{Ran, ByStep, feds}
+use Rattle.book.specs.Step.{Ran, ByStep, allFed}
 use Rattle.book.specs.Book.{isAccepted, sceneStep, updateStep}
 use Rattle.book.proofs.Steps.{booked}
 use Rattle.book.proofs.Book.{first-ranked, update-leaves, shapes-many, shapes-ranked}
@@ -46,8 +46,8 @@ module _ (w : World) where
       record {
         scene-is = first .tells;
         first-are = first .leaves;
-        ranked = rw (all .state-is) (shapes-ranked (feds cs) s (rw (first .leaves) (first-ranked (scene .fed))));
-        as-many = rw (all .state-is) (shapes-many (feds cs) s);
+        ranked = rw (all .state-is) (shapes-ranked (allFed cs) s (rw (first .leaves) (first-ranked (scene .fed))));
+        as-many = rw (all .state-is) (shapes-many (allFed cs) s);
         booked = all;
       }
 
@@ -57,6 +57,6 @@ module _ (w : World) where
   makes zero σ s o = ∣ ([], σ, s, none, refl) ∣₁
   makes (suc n) σ s o =
       let k = o .0 in
-      ∥∥₁-elim (updates w (k .form) (k .sent) (k .sendable) (k .handed) (k .handable) (k .memory) (k .beside) (k .has)) ∥∥₁-prop (λ run.
+      ∥∥₁-elim (updates w (k .form) (k .sent) (k .sent-fits) (k .handed) (k .handed-fits) (k .memory) (k .beside) (k .has)) ∥∥₁-prop (λ run.
       ∥∥₁-map (makes n (run .memory) (shapesLeft w k run) (o .1 run)) (λ rest.
       (callOf w k run ∷ rest .0, rest .1, rest .2, call k run (rest .3), ap suc (rest .4))))

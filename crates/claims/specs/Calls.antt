@@ -11,14 +11,14 @@ use lib.ListN.{length, take}
 use Rattle.rules.specs.Reading.{isRead}
 use Rattle.position.specs.declared.PositionSyntax.{PositionSyntax}
 use Rattle.book.specs.Step as book
-use Rattle.book.specs.Step.{Booked, feds}
+use Rattle.book.specs.Step.{Booked, allFed}
 use Rattle.book.specs.Book.{Packet, packetOf, Given, givenBy, isAccepted, sceneStep, updateStep, bookFirst, Ranked}
 use Rattle.owner.specs.Cells.{Slice, at-block}
 use Rattle.owner.specs.Machine.{Writes, AllBelow}
 use Rattle.owner.specs.Holds.{_⊨_}
-use Rattle.runs.specs.Sent.{Variant, Sent, Sendable, Lying}
+use Rattle.runs.specs.Sent.{Variant, Sent, SentFits, SentInCells}
 use Rattle.runs.specs.Scene.{SceneRead}
-use Rattle.runs.specs.Update.{Form, Handed, Handable, allOf, countOf, used, HandedLying, Updated}
+use Rattle.runs.specs.Update.{Form, Handed, HandedFits, allOf, countOf, used, HandedInCells, Updated}
 
 -- a call as it went: the packet that it was fed, and what it gave
 abbrev pub Call : Type 0
@@ -52,9 +52,9 @@ module _ (w : World) where
     pub memory : Memory
     pub beside : SProp (w .𝓤)
     pub wrote : Writes σ memory
-    pub sendable : Sendable sent
-    pub handable : Handable form handed
-    pub has : _⊨_ w memory (Lying w sent (sent .words .held) (HandedLying w form handed (allOf form handed) beside))
+    pub sent-fits : SentFits sent
+    pub handed-fits : HandedFits form handed
+    pub has : _⊨_ w memory (SentInCells w sent (sent .words .held) (HandedInCells w form handed (allOf form handed) beside))
     pub count-is : countOf form handed ≡ length s
     pub found : s ≡ used form handed (allOf form handed)
 
@@ -133,5 +133,5 @@ pub record SentAll (w : World) (qs : List (Wanted Form)) (σ : Memory) (s : List
   pub memory : Memory
   pub shapes : List PositionSyntax
   pub through : Through w σ s calls memory shapes
-  pub packets-are : feds calls ≡ map packetWanted qs
+  pub packets-are : allFed calls ≡ map packetWanted qs
   pub forms-are : forms w through ≡ map (λ q. q .form) qs

@@ -16,9 +16,9 @@ use Rattle.book.specs.Book.{Ranked, SceneWouldGive, PacketWouldGive}
 use Rattle.owner.specs.Cells.{Cells}
 use Rattle.owner.specs.Machine.{Ran, Loads}
 use Rattle.owner.specs.Holds as holds
-use Rattle.runs.specs.Sent.{Variant, Sent, Sendable, passed, Lying}
+use Rattle.runs.specs.Sent.{Variant, Sent, SentFits, passed, SentInCells}
 use Rattle.runs.specs.Scene.{sceneRoutine, sceneValue, SceneRead}
-use Rattle.runs.specs.Update.{Form, Handed, Handable, handedValues, allOf, countOf, used, HandedLying, updateRoutine, updateValue, Updated}
+use Rattle.runs.specs.Update.{Form, Handed, HandedFits, handedValues, allOf, countOf, used, HandedInCells, updateRoutine, updateValue, Updated}
 use Rattle.claims.specs.Calls.{Call, packetSent, Accepted, Through, Owner, ListClaim, Wanted, packetWanted, Possible, AllPossible, SentAll}
 
 module _ (w : World) where
@@ -33,10 +33,10 @@ module _ (w : World) where
   pub record Demand3 : Type 2 where
     -- Whoever has bytes and words, and for an update shapes, in the cells of a memory, and anything else beside them, may call. The
     -- call returns: `SceneRead` and `Updated` say what, and what the memory then holds.
-    pub every-scene : (x : Variant) (p : Sent) → Sendable p → (σ : Memory) (F : Beside) → σ ⊨ Lying w p (p .words .held) F →
+    pub every-scene : (x : Variant) (p : Sent) → SentFits p → (σ : Memory) (F : Beside) → σ ⊨ SentInCells w p (p .words .held) F →
         ∥ SceneRead w x p σ F ∥₁
-    pub every-call : (f : Form) (p : Sent) → Sendable p → (h : Handed f) → Handable f h → (σ : Memory) (F : Beside) →
-        σ ⊨ Lying w p (p .words .held) (HandedLying w f h (allOf f h) F) → ∥ Updated w f p h σ F ∥₁
+    pub every-call : (f : Form) (p : Sent) → SentFits p → (h : Handed f) → HandedFits f h → (σ : Memory) (F : Beside) →
+        σ ⊨ SentInCells w p (p .words .held) (HandedInCells w f h (allOf f h) F) → ∥ Updated w f p h σ F ∥₁
     -- and the machine has no other end for it
     pub one-scene : (x : Variant) (p : Sent) (σ : Memory) (F : Beside) (run : SceneRead w x p σ F) (v : Val) (ρ : Memory) →
         Ran (sceneRoutine x) (passed p []) σ v ρ → _≡_ {A = Val × Memory} (v, ρ) (sceneValue x (run .answer), run .memory)

@@ -18,11 +18,11 @@ use Rattle.part.specs.Part.{Listed, partFrom, partListed}
 use Rattle.listings.specs.Printed.{partListing}
 use Rattle.owner.specs.Cells.{Cells, refilled}
 use Rattle.owner.specs.Holds as holds
-use Rattle.runs.specs.Sent.{Variant, Sent, Sendable, inputSent, Lying}
+use Rattle.runs.specs.Sent.{Variant, Sent, SentFits, inputSent, SentInCells}
 use Rattle.runs.specs.Scene.{SceneRead}
 use Rattle.runs.specs.Metadata.{MetadataRead}
-use Rattle.runs.specs.Show.{Asked, Askable, AskedLying, PartRead}
-use Rattle.runs.specs.Line.{Line, of-field, of-outcome, Linable, LineLying, LinePut}
+use Rattle.runs.specs.Show.{Asked, AskedFits, AskedInCells, PartRead}
+use Rattle.runs.specs.Line.{Line, of-field, of-outcome, LineFits, LineInCells, LinePut}
 
 -- what is listed of a part that is asked for
 abbrev pub listedOf : Asked → Listed
@@ -61,10 +61,10 @@ module _ (w : World) where
   pub record ListingClaim : Type 2 where
     -- Whoever has what a call asks for in the cells of a memory, and anything else beside it, may call, and the call returns. (Of a
     -- scene that is demand 3's `every-scene`.)
-    pub every-metadata : (p : Sent) → Sendable p → (σ : Memory) (F : Beside) → σ ⊨ Lying w p (p .words .held) F → ∥ MetadataRead w p σ F ∥₁
-    pub every-part : (p : Asked) → Askable p → (σ : Memory) (F : Beside) → σ ⊨ AskedLying w p (p .words .held) F → ∥ PartRead w p σ F ∥₁
-    pub every-line : (x : Line) → Linable x → (bytes : Cells ℕ) → length (bytes .held) ≡ 256 → (σ : Memory) (F : Beside) →
-        σ ⊨ LineLying w x bytes F → ∥ LinePut w x bytes σ F ∥₁
+    pub every-metadata : (p : Sent) → SentFits p → (σ : Memory) (F : Beside) → σ ⊨ SentInCells w p (p .words .held) F → ∥ MetadataRead w p σ F ∥₁
+    pub every-part : (p : Asked) → AskedFits p → (σ : Memory) (F : Beside) → σ ⊨ AskedInCells w p (p .words .held) F → ∥ PartRead w p σ F ∥₁
+    pub every-line : (x : Line) → LineFits x → (bytes : Cells ℕ) → length (bytes .held) ≡ 256 → (σ : Memory) (F : Beside) →
+        σ ⊨ LineInCells w x bytes F → ∥ LinePut w x bytes σ F ∥₁
     pub scene-listed : (x : Variant) (p : Sent) (σ : Memory) (F : Beside) (run : SceneRead w x p σ F) → p .recording ≡ true →
         (text : List ℕ) → PutOut (run .answer .answer) (refilled (p .words) (run .words)) text →
         text ≡ listing (sceneReading (inputSent p) (p .offset))

@@ -13,7 +13,7 @@ use Rattle.rules.specs.Reading.{isRead}
 use Rattle.position.specs.declared.PositionSyntax.{PositionSyntax}
 use Rattle.validation.specs.Rank.{parents, Ranks, rankOf}
 use Rattle.text.proofs.TextAnswer.Laws as text-answer
-use Rattle.book.specs.Step.{feds, tolds}
+use Rattle.book.specs.Step.{allFed, allTold}
 use Rattle.show.specs.Header.{partCount, fileQuestion}
 use Rattle.show.specs.Show.{partLine, partLines, allPositions, packet, packets, showText}
 use Rattle.show.proofs.show.Symbol.{routine as show-routine}
@@ -22,7 +22,7 @@ use Rattle.owner.specs.Machine.{Ran}
 use Rattle.owner.specs.Holds as holds
 use Rattle.runs.specs.Sent.{Variant, Sent}
 use Rattle.runs.specs.Scene.{SceneRead}
-use Rattle.runs.specs.Show.{Showing, Showable, ShowLying, Shown}
+use Rattle.runs.specs.Show.{Showing, ShowingFits, ShowInCells, Shown}
 use Rattle.claims.specs.Calls.{Call, packetSent, Accepted, Through}
 
 module _ (w : World) where
@@ -40,7 +40,7 @@ module _ (w : World) where
   pub record ShowClaim : Type 2 where
     -- Whoever has a file and the bytes for its text in the cells of a memory, and anything else beside them, may call `show`. It
     -- returns, its memory holds the text that is defined, and the machine has no other end for it.
-    pub every-show : (p : Showing) → Showable p → (σ : Memory) (F : Beside) → σ ⊨ ShowLying w p (p .text .held) F → ∥ Shown w p σ F ∥₁
+    pub every-show : (p : Showing) → ShowingFits p → (σ : Memory) (F : Beside) → σ ⊨ ShowInCells w p (p .text .held) F → ∥ Shown w p σ F ∥₁
     pub one-show : (p : Showing) (σ : Memory) (F : Beside) (run : Shown w p σ F) (v : Val) (ρ : Memory) →
         Ran show-routine (slice (p .file) ∷ pointer (p .text) ∷ []) σ v ρ →
         _≡_ {A = Val × Memory} (v, ρ) (text-answer.lowered (run .answer), run .memory)
@@ -53,8 +53,8 @@ module _ (w : World) where
     -- before left, then the answers that are told are theirs, and the positions those of the shapes that they left ..
     pub told : (p : Showing) (σ : Memory) (F : Beside) (run : Shown w p σ F) → fileQuestion (p .file .held) ≡ 0 →
         (scene : Call) (s t : List PositionSyntax) (π ρ : Memory) (cs : List Call) → Accepted w scene s π → Through w π s cs ρ t →
-        scene .fed ≡ packet (p .file .held) 0 → feds cs ≡ packets (p .file .held) (partCount (p .file .held) - 1) 1 →
-        textOf run ≡ partLine 0 (scene .told .answer) ++ (partLines 1 (tolds cs) ++ allPositions t)
+        scene .fed ≡ packet (p .file .held) 0 → allFed cs ≡ packets (p .file .held) (partCount (p .file .held) - 1) 1 →
+        textOf run ≡ partLine 0 (scene .told .answer) ++ (partLines 1 (allTold cs) ++ allPositions t)
     -- .. which have the ranks that are told.
     pub ranks : (scene : Call) (s t : List PositionSyntax) (π ρ : Memory) (cs : List Call) → Accepted w scene s π → Through w π s cs ρ t →
         Ranks (parents t) (rankOf (parents t))

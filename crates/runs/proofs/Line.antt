@@ -29,7 +29,7 @@ use Rattle.owner.specs.Holds.{_⊨_}
 use Rattle.owner.proofs.Loans.{Kind, shared, reference, value}
 use Rattle.owner.proofs.Owner.{T, Says}
 use Rattle.owner.proofs.Around.{runs}
-use Rattle.runs.specs.Line.{Line, of-field, of-outcome, Linable, LineLying, LinePut}
+use Rattle.runs.specs.Line.{Line, of-field, of-outcome, LineFits, LineInCells, LinePut}
 use Rattle.runs.proofs.Sent.{number-made, bytes-placed, words-placed}
 use Rattle.runs.proofs.Answer.{answer-is}
 
@@ -54,8 +54,8 @@ outcome-is = refl
 abbrev outcome-says : Says 1 outcome-kinds builtin.usize
 outcome-says x r l = Lined (x .1 .0) (outcomeLine (x .0)) r (l .1 .0)
 
-pub lines-put : (w : World) (x : Line) → Linable x → (line : Cells ℕ) → length (line .held) ≡ 256 → (σ : Memory) (F : SProp (w .𝓤)) →
-    _⊨_ w σ (LineLying w x line F) → ∥ LinePut w x line σ F ∥₁
+pub lines-put : (w : World) (x : Line) → LineFits x → (line : Cells ℕ) → length (line .held) ≡ 256 → (σ : Memory) (F : SProp (w .𝓤)) →
+    _⊨_ w σ (LineInCells w x line F) → ∥ LinePut w x line σ F ∥₁
 lines-put w (of-field q ws i) ok line many σ F holds =
     ∥∥₁-map (runs 2 field-kinds builtin.usize (vint w64) w (words-placed w, (tt, (bytes-placed w, tt))) field-routine field-says
     (uint-tells w64) none (field-met (w .𝓤) (w .H) (w .𝓜) (w .𝓖) (w .𝓡)) (tt, (number-made w, (tt, tt))) ((q, ws), (i, (line, tt))) tt

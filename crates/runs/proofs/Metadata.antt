@@ -15,7 +15,7 @@ use Rattle.metadata.proofs.read_metadata.Met.{met}
 use Rattle.owner.specs.Holds.{_⊨_}
 use Rattle.owner.proofs.Loans.{Kind}
 use Rattle.owner.proofs.Owner.{T, Says}
-use Rattle.runs.specs.Sent.{Sent, Sendable, Lying}
+use Rattle.runs.specs.Sent.{Sent, SentFits, SentInCells}
 use Rattle.runs.specs.Metadata.{MetadataRead}
 use Rattle.runs.proofs.Sent.{sent-kinds, words-left, input-in, offset-in, recording-in, words-in, sent-runs}
 use Rattle.runs.proofs.Answer.{answer-fits}
@@ -30,7 +30,7 @@ read-is = refl
 abbrev says : Says 2 kinds answer-row.the-row
 says x r l = Answered (metadataReading (input-in x) (offset-in x)) tt (recording-in x) (words-in x) r tt (words-left 2 tt tt [] l)
 
-pub metadata-reads : (w : World) (p : Sent) → Sendable p → (σ : Memory) (F : SProp (w .𝓤)) → _⊨_ w σ (Lying w p (p .words .held) F) →
+pub metadata-reads : (w : World) (p : Sent) → SentFits p → (σ : Memory) (F : SProp (w .𝓤)) → _⊨_ w σ (SentInCells w p (p .words .held) F) →
     ∥ MetadataRead w p σ F ∥₁
 metadata-reads w p ok σ F holds =
     ∥∥₁-map (sent-runs w 2 tt tt [] tt answer-row.the-row answer-laws.lowered routine says (answer-laws.lowers .val-is)

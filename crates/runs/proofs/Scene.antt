@@ -29,7 +29,7 @@ use Rattle.owner.specs.Machine.{Ran}
 use Rattle.owner.specs.Holds.{_⊨_}
 use Rattle.owner.proofs.Loans.{Kind}
 use Rattle.owner.proofs.Owner.{T, Says}
-use Rattle.runs.specs.Sent.{Variant, plain, exported, Sent, Sendable, passed, AllFit, Lying}
+use Rattle.runs.specs.Sent.{Variant, plain, exported, Sent, SentFits, passed, AllFit, SentInCells}
 use Rattle.runs.specs.Scene.{sceneRoutine, SceneRead}
 use Rattle.runs.proofs.Sent.{sent-kinds, words-left, input-in, offset-in, recording-in, words-in, W, array-fits, sent-runs}
 
@@ -60,7 +60,7 @@ module _ (w : World) where
   exported-fit : (a : GatewayScene) → Is exported-row.the-row a (exported-laws.lowered a ∷ []) → AllFit (a .shapes)
   exported-fit a is = array-fits (a .shapes) (exported-typed a (exported-laws.lowered a ∷ []) is .0 .1 .1 .1 .0)
 
-  pub scene-reads : (v : Variant) (p : Sent) → Sendable p → (σ : Memory) (F : SProp (w .𝓤)) → _⊨_ w σ (Lying w p (p .words .held) F) →
+  pub scene-reads : (v : Variant) (p : Sent) → SentFits p → (σ : Memory) (F : SProp (w .𝓤)) → _⊨_ w σ (SentInCells w p (p .words .held) F) →
       ∥ SceneRead w v p σ F ∥₁
   scene-reads plain p ok σ F holds =
       ∥∥₁-map (sent-runs w 2 tt tt [] tt scene-row.the-row scene-laws.lowered (sceneRoutine plain) (says scene-row.the-row SceneAnswered)

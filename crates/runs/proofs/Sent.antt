@@ -34,7 +34,7 @@ use Rattle.owner.proofs.Placed.{Placed, part-out, part-in, number-placed}
 use Rattle.owner.proofs.Owner.{T, Says, promised}
 use Rattle.owner.proofs.Around.{Places, Has, Run, runs}
 use Rattle.owner.proofs.Cells.{well-typed}
-use Rattle.runs.specs.Sent.{Sent, Sendable, AllFit, Shapes}
+use Rattle.runs.specs.Sent.{Sent, SentFits, AllFit, Shapes}
 
 module _ (n : ℕ) (first : Within n 0) (second : Within n 1) (ks : List (Kind n)) where
   abbrev pub sent-kinds : List (Kind n)
@@ -44,7 +44,7 @@ module _ (n : ℕ) (first : Within n 0) (second : Within n 1) (ks : List (Kind n
   abbrev pub sent-given : Sent → Givens ks → Givens sent-kinds
   sent-given p rest = ((p .share, p .bytes), (p .offset, (p .recording, (p .words, rest))))
 
-  sent-fits : (p : Sent) → Sendable p → (rest : Givens ks) → Fits ks rest → Fits sent-kinds (sent-given p rest)
+  sent-fits : (p : Sent) → SentFits p → (rest : Givens ks) → Fits ks rest → Fits sent-kinds (sent-given p rest)
   sent-fits p ok rest fits = (ok .bytes, ((refl, ok .offset), (refl, (ok .words, fits))))
 
   -- of all that is left: the words, and what is left of the others
@@ -129,7 +129,7 @@ module _ (w : World) (n : ℕ) (first : Within n 0) (second : Within n 1) (ks : 
 
   pub sent-runs : Tells R (Is R) (λ r. low r ∷ [])
       → Meets (w .𝓤) (w .H) (w .𝓖 .A) (T n kinds R .signature) (w .𝓡 .run ρ) (written w (T n kinds R) (promised n kinds R none E) ρ)
-      → Made (w .𝓤) (w .H) (w .𝓖 .A) (W w) ks → (p : Sent) → Sendable p → (rest : Givens ks) → Fits ks rest → (σ : Memory) (F : SProp (w .𝓤))
+      → Made (w .𝓤) (w .H) (w .𝓖 .A) (W w) ks → (p : Sent) → SentFits p → (rest : Givens ks) → Fits ks rest → (σ : Memory) (F : SProp (w .𝓤))
       → Has n kinds R low w places ρ E σ (sent-given n first second ks p rest) F →
       ∥ Run n kinds R low w places ρ E (sent-given n first second ks p rest) σ F ∥₁
   sent-runs tells met made p ok rest fits σ F holds =

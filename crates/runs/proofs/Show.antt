@@ -29,7 +29,7 @@ use Rattle.owner.specs.Holds.{_⊨_}
 use Rattle.owner.proofs.Loans.{Kind, shared, mutable, reference, value}
 use Rattle.owner.proofs.Owner.{T, Says}
 use Rattle.owner.proofs.Around.{runs}
-use Rattle.runs.specs.Show.{Showing, Showable, ShowLying, Shown, Asked, Askable, AskedLying, PartRead}
+use Rattle.runs.specs.Show.{Showing, ShowingFits, ShowInCells, Shown, Asked, AskedFits, AskedInCells, PartRead}
 use Rattle.runs.proofs.Sent.{W, number-made, bytes-placed, words-placed}
 
 -- ---- file and text
@@ -59,7 +59,7 @@ part-says x r l =
     PartAnswered (partListed file part (partFrom file part offset words)) words r (l .1 .1 .1 .0)
 
 module _ (w : World) where
-  pub shows : (p : Showing) → Showable p → (σ : Memory) (F : SProp (w .𝓤)) → _⊨_ w σ (ShowLying w p (p .text .held) F) → ∥ Shown w p σ F ∥₁
+  pub shows : (p : Showing) → ShowingFits p → (σ : Memory) (F : SProp (w .𝓤)) → _⊨_ w σ (ShowInCells w p (p .text .held) F) → ∥ Shown w p σ F ∥₁
   shows p ok σ F holds =
       ∥∥₁-map (runs 2 show-kinds text-row.the-row text-laws.lowered w (bytes-placed w, (bytes-placed w, tt)) show-routine show-says
       (text-laws.lowers .val-is) none (show-met (w .𝓤) (w .H) (w .𝓜) (w .𝓖) (w .𝓡)) (tt, (tt, tt)) ((p .share, p .file), (p .text, tt)) tt
@@ -76,7 +76,7 @@ module _ (w : World) where
   part-typed : (a : PartAnswer) (vs : List Val) → Is part-row.the-row a vs → Typed (part-row.the-row .mir) vs
   part-typed = lawful part-row.the-type part-laws.the-laws (w .𝓤) (w .H) (w .𝓖 .A) (W w) tt .typed
 
-  pub parts-read : (p : Asked) → Askable p → (σ : Memory) (F : SProp (w .𝓤)) → _⊨_ w σ (AskedLying w p (p .words .held) F) → ∥ PartRead w p σ F ∥₁
+  pub parts-read : (p : Asked) → AskedFits p → (σ : Memory) (F : SProp (w .𝓤)) → _⊨_ w σ (AskedInCells w p (p .words .held) F) → ∥ PartRead w p σ F ∥₁
   parts-read p ok σ F holds =
       ∥∥₁-map (runs 2 part-kinds part-row.the-row part-laws.lowered w (bytes-placed w, (tt, (tt, (words-placed w, tt)))) part-routine part-says
       (part-laws.lowers .val-is) none (part-met (w .𝓤) (w .H) (w .𝓜) (w .𝓖) (w .𝓡)) (tt, (number-made w, (number-made w, (tt, tt))))

@@ -19,6 +19,7 @@ use denote.Laws.{Is, Typed, Makes}
 use denote.Struct.Laws.{makes, lawful, owed}
 use borrow.Fn.World.{World}
 use Rattle.rules.specs.Reading.{Reading}
+use Rattle.rules.specs.declared.Answer.{Answer}
 use Rattle.rules.specs.Answer.{Answered}
 use Rattle.rules.proofs.Answer as answer-row
 use Rattle.rules.proofs.Answer.Laws as answer-laws
@@ -39,14 +40,14 @@ use Rattle.gateway.proofs.GatewayAnswer as exported-row
 use Rattle.gateway.proofs.GatewayAnswer.Laws as exported-laws
 use Rattle.gateway.proofs.gateway_update as gateway-update
 use Rattle.gateway.proofs.gateway_update.Met.{met as gateway-met}
-use Rattle.owner.specs.Cells.{Cells, refilled}
+use Rattle.owner.specs.Cells.{Cells, refilled, slice}
 use Rattle.owner.specs.Machine.{Ran}
 use Rattle.owner.specs.Holds.{_⊨_}
-use Rattle.owner.proofs.Loans.{Kind, mutable, value}
+use Rattle.owner.proofs.Loans.{Kind, mutable, value, Lefts, AsMany}
 use Rattle.owner.proofs.Owner.{T, Says}
-use Rattle.runs.specs.Sent.{plain, exported, Sent, Sendable, passed, AllFit, Bytes, Words, Shapes, Lying}
-use Rattle.runs.specs.Update.{Form, by-value, lent, updateRoutine, Handed, Handable, handedValues, allOf, HandedLying, Updated}
-use Rattle.runs.proofs.Sent.{sent-kinds, words-left, rest-left, input-in, offset-in, recording-in, words-in, rest-in}
+use Rattle.runs.specs.Sent.{Variant, plain, exported, Sent, SentFits, passed, inputSent, AllFit, Bytes, Words, Shapes, SentInCells}
+use Rattle.runs.specs.Update.{Form, by-value, lent, updateRoutine, updateValue, Handed, HandedFits, allOf, HandedInCells, Updated}
+use Rattle.runs.proofs.Sent.{sent-kinds, sent-given, words-left, rest-left, input-in, offset-in, recording-in, words-in, rest-in}
 use Rattle.runs.proofs.Sent.{W, number-made, shape-is, shapes-placed, shapes-fit, array-fits, sent-runs}
 
 -- ---- the parameters after the first: shapes and count, or the lent shapes
@@ -114,15 +115,41 @@ module _ (w : World) where
 
   -- ---- lent: what lies in a memory's cells is well typed
   left-fit : (p : Sent) (ws : List ℕ) (d : Cells PositionSyntax) (σ : Memory) (F : SProp (w .𝓤)) →
-      _⊨_ w σ (Lying w p ws (sep (w .𝓤) (Shapes w d) F)) → ∥ AllFit (d .held) ∥₁
+      _⊨_ w σ (SentInCells w p ws (sep (w .𝓤) (Shapes w d) F)) → ∥ AllFit (d .held) ∥₁
   left-fit p ws d σ F s =
       let shapes = sep (w .𝓤) (Shapes w d) F in
       let both = sep (w .𝓤) (Words w (refilled (p .words) ws)) shapes in
       shapes-fit w d σ F (sat-weaken (w .𝓤) (w .H) (w .𝓜) σ
       (via (w .𝓤) both (snd∗ (w .𝓤) (Bytes w (p .share) (p .bytes)) both) (snd∗ (w .𝓤) (Words w (refilled (p .words) ws)) shapes)) s)
 
-  pub updates : (f : Form) (p : Sent) → Sendable p → (h : Handed f) → Handable f h → (σ : Memory) (F : SProp (w .𝓤)) →
-      _⊨_ w σ (Lying w p (p .words .held) (HandedLying w f h (allOf f h) F)) → ∥ Updated w f p h σ F ∥₁
+  -- a run of either, by what was left of its parameters
+  lent-updated : (v : Variant) (p : Sent) (d : Cells PositionSyntax) (σ : Memory) (F : SProp (w .𝓤)) (answer : Answer) (left : Lefts lent-kinds) →
+      AsMany lent-kinds (sent-given 3 tt tt in-cells p (d, tt)) left → (memory : Memory) →
+      let words = words-left 3 tt tt in-cells left in
+      let shapes = rest-left 3 tt tt in-cells left .0 in
+      Ran (updateRoutine (lent v)) (passed p (slice d ∷ [])) σ (updateValue (lent v) answer shapes) memory →
+      _⊨_ w memory (SentInCells w p words (sep (w .𝓤) (Shapes w (refilled d shapes)) F)) →
+      Answered (updateReading (inputSent p) (p .offset) (length (d .held)) (d .held)) (d .held) (p .recording) (p .words .held) answer shapes words →
+      ∥ Updated w (lent v) p d σ F ∥₁
+  lent-updated v p d σ F answer left many memory ran holds answered =
+      let words = words-left 3 tt tt in-cells left in
+      let shapes = rest-left 3 tt tt in-cells left .0 in
+      ∥∥₁-map (left-fit p words (refilled d shapes) memory F holds) (λ fit. record {
+        answer = answer;
+        words = words;
+        shapes = shapes;
+        memory = memory;
+        ran = ran;
+        words-many = many .1 .1 .1 .0;
+        shapes-many = many .1 .1 .1 .1 .0;
+        shapes-fit = fit;
+        holds = holds;
+        answered = answered;
+        others-kept = tt;
+      })
+
+  pub updates : (f : Form) (p : Sent) → SentFits p → (h : Handed f) → HandedFits f h → (σ : Memory) (F : SProp (w .𝓤)) →
+      _⊨_ w σ (SentInCells w p (p .words .held) (HandedInCells w f h (allOf f h) F)) → ∥ Updated w f p h σ F ∥₁
   updates by-value p ok h fits σ F holds =
       let array : Is ShapeArray (h .shapes) (array-vals (λ s. shape-laws.lowered s ∷ []) (h .shapes)) =
       (map shape-laws.lowered (h .shapes), ((refl, fits .all), each-is (h .shapes) (fits .fit))) in
@@ -145,39 +172,11 @@ module _ (w : World) where
       ∥∥₁-elim (sent-runs w 3 tt tt in-cells (shapes-placed w, tt) answer-row.the-row answer-laws.lowered (updateRoutine (lent plain))
       (lent-says answer-row.the-row Answered) (answer-laws.lowers .val-is) (lent-met (w .𝓤) (w .H) (w .𝓜) (w .𝓖) (w .𝓡)) (tt, tt) p ok
       (d, tt) (fits, tt) σ F holds) ∥∥₁-prop (λ t.
-      let words = words-left 3 tt tt in-cells (t .left) in
-      let shapes = rest-left 3 tt tt in-cells (t .left) .0 in
-      ∥∥₁-map (left-fit p words (refilled d shapes) (t .memory) F (t .holds)) (λ fit. record {
-        answer = t .result;
-        words = words;
-        shapes = shapes;
-        memory = t .memory;
-        ran = t .ran;
-        words-many = t .as-many .1 .1 .1 .0;
-        shapes-many = t .as-many .1 .1 .1 .1 .0;
-        shapes-fit = fit;
-        holds = t .holds;
-        answered = t .ensured;
-        others-kept = tt;
-      }))
+      lent-updated plain p d σ F (t .result) (t .left) (t .as-many) (t .memory) (t .ran) (t .holds) (t .ensured))
   updates (lent exported) p ok d fits σ F holds =
       ∥∥₁-elim (sent-runs w 3 tt tt in-cells (shapes-placed w, tt) exported-row.the-row exported-laws.lowered (updateRoutine (lent exported))
       (lent-says exported-row.the-row Exported) (exported-laws.lowers .val-is) (gateway-met (w .𝓤) (w .H) (w .𝓜) (w .𝓖) (w .𝓡)) (tt, tt) p ok
       (d, tt) (fits, tt) σ F holds) ∥∥₁-prop (λ t.
-      let words = words-left 3 tt tt in-cells (t .left) in
-      let shapes = rest-left 3 tt tt in-cells (t .left) .0 in
-      let Returns : GatewayAnswer → Type 0 =
-      λ r. Ran (updateRoutine (lent exported)) (passed p (handedValues (lent exported) d)) σ (exported-laws.lowered r) (t .memory) in
-      ∥∥₁-map (left-fit p words (refilled d shapes) (t .memory) F (t .holds)) (λ fit. record {
-        answer = t .ensured .answer;
-        words = words;
-        shapes = shapes;
-        memory = t .memory;
-        ran = subst Returns (t .ensured .same) (t .ran);
-        words-many = t .as-many .1 .1 .1 .0;
-        shapes-many = t .as-many .1 .1 .1 .1 .0;
-        shapes-fit = fit;
-        holds = t .holds;
-        answered = t .ensured .answered;
-        others-kept = tt;
-      }))
+      let Returns : GatewayAnswer → Type 0 = λ r. Ran (updateRoutine (lent exported)) (passed p (slice d ∷ [])) σ (exported-laws.lowered r) (t .memory) in
+      let ran = subst Returns (t .ensured .same) (t .ran) in
+      lent-updated exported p d σ F (t .ensured .answer) (t .left) (t .as-many) (t .memory) ran (t .holds) (t .ensured .answered))

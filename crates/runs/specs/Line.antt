@@ -30,9 +30,9 @@ abbrev pub lineRoutine : Line → Routine
 lineRoutine (of-field q ws i) = field-routine
 lineRoutine (of-outcome a) = outcome-routine
 
-abbrev pub Linable : Line → Type 0
-Linable (of-field q ws i) = Slice 8 ws × (i < 2 ^ 64)
-Linable (of-outcome a) = WT (answer-laws.lowered a)
+abbrev pub LineFits : Line → Type 0
+LineFits (of-field q ws i) = Slice 8 ws × (i < 2 ^ 64)
+LineFits (of-outcome a) = WT (answer-laws.lowered a)
 
 abbrev pub lineValues : Line → List Val
 lineValues (of-field q ws i) = slice ws ∷ vint w64 i ∷ []
@@ -43,9 +43,9 @@ lineText (of-field q ws i) = lineAt (ws .held) i
 lineText (of-outcome a) = outcomeLine a
 
 -- the words, and the bytes that are lent for the line, beside F
-abbrev pub LineLying : (w : World) → Line → Cells ℕ → SProp (w .𝓤) → SProp (w .𝓤)
-LineLying w (of-field q ws i) line F = sep (w .𝓤) (Numbers w w64 q ws) (sep (w .𝓤) (Text w line) F)
-LineLying w (of-outcome a) line F = sep (w .𝓤) (Text w line) F
+abbrev pub LineInCells : (w : World) → Line → Cells ℕ → SProp (w .𝓤) → SProp (w .𝓤)
+LineInCells w (of-field q ws i) line F = sep (w .𝓤) (Numbers w w64 q ws) (sep (w .𝓤) (Text w line) F)
+LineInCells w (of-outcome a) line F = sep (w .𝓤) (Text w line) F
 
 -- From the memory σ, beside F: it ends with the number of bytes put, in a memory that holds the lent bytes as they were left,
 -- no more and no fewer, and all else as it was.
@@ -55,5 +55,5 @@ pub record LinePut (w : World) (x : Line) (line : Cells ℕ) (σ : Memory) (F : 
   pub memory : Memory
   pub ran : Ran (lineRoutine x) (lineValues x ++ pointer line ∷ []) σ (vint w64 put) memory
   pub bytes-many : length bytes ≡ 256
-  pub holds : _⊨_ w memory (LineLying w x (refilled line bytes) F)
+  pub holds : _⊨_ w memory (LineInCells w x (refilled line bytes) F)
   pub lined : Lined (line .held) (lineText x) put bytes

@@ -14,7 +14,7 @@ use Rattle.metadata.specs.Entry.{metadataReading}
 use Rattle.metadata.proofs.read_metadata.Symbol.{routine}
 use Rattle.owner.specs.Machine.{Ran}
 use Rattle.owner.specs.Holds.{_⊨_}
-use Rattle.runs.specs.Sent.{Sent, passed, inputSent, Lying}
+use Rattle.runs.specs.Sent.{Sent, passed, inputSent, SentInCells}
 
 -- From the memory σ, beside F: it ends with the machine's value of an answer, which is one of its type, in a memory that holds
 -- the bytes as they were, the words as they were left, no more and no fewer, and F as it was.
@@ -25,5 +25,5 @@ pub record MetadataRead (w : World) (p : Sent) (σ : Memory) (F : SProp (w .𝓤
   pub ran : Ran routine (passed p []) σ (answer-laws.lowered answer) memory
   pub answer-fits : WT (answer-laws.lowered answer)
   pub words-many : length words ≡ length (p .words .held)
-  pub holds : _⊨_ w memory (Lying w p words F)
+  pub holds : _⊨_ w memory (SentInCells w p words F)
   pub answered : Answered (metadataReading (inputSent p) (p .offset)) tt (p .recording) (p .words .held) answer tt words

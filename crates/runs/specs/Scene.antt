@@ -18,7 +18,7 @@ use Rattle.gateway.proofs.GatewayScene.Laws as exported-answer
 use Rattle.gateway.proofs.gateway_scene.Symbol.{routine as gateway-scene-routine}
 use Rattle.owner.specs.Machine.{Ran}
 use Rattle.owner.specs.Holds.{_⊨_}
-use Rattle.runs.specs.Sent.{Variant, plain, exported, Sent, passed, inputSent, AllFit, Lying}
+use Rattle.runs.specs.Sent.{Variant, plain, exported, Sent, passed, inputSent, AllFit, SentInCells}
 
 -- `scene::read_scene`, and `gateway_scene`
 abbrev pub sceneRoutine : Variant → Routine
@@ -43,5 +43,5 @@ pub record SceneRead (w : World) (v : Variant) (p : Sent) (σ : Memory) (F : SPr
   pub ran : Ran (sceneRoutine v) (passed p []) σ (sceneValue v answer) memory
   pub words-many : length words ≡ length (p .words .held)
   pub shapes-fit : AllFit (answer .shapes)
-  pub holds : _⊨_ w memory (Lying w p words F)
+  pub holds : _⊨_ w memory (SentInCells w p words F)
   pub answered : SceneAnswered (sceneReading (inputSent p) (p .offset)) (p .recording) (p .words .held) answer words

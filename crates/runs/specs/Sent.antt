@@ -29,7 +29,7 @@ pub record Sent : Type 0 where
   pub recording : Bool
   pub words : Cells ℕ
 
-pub record Sendable (p : Sent) : Type 0 where
+pub record SentFits (p : Sent) : Type 0 where
   pub bytes : Slice 1 (p .bytes)
   pub offset : p .offset < 2 ^ 64
   pub words : Slice 8 (p .words)
@@ -61,5 +61,5 @@ module _ (w : World) where
   Shapes = Laid w shape.mir shape.lowered fullShare
 
   -- what is sent, with these words in its cells, beside F
-  abbrev pub Lying : Sent → List ℕ → SProp (w .𝓤) → SProp (w .𝓤)
-  Lying p ws F = sep (w .𝓤) (Bytes (p .share) (p .bytes)) (sep (w .𝓤) (Words (refilled (p .words) ws)) F)
+  abbrev pub SentInCells : Sent → List ℕ → SProp (w .𝓤) → SProp (w .𝓤)
+  SentInCells p ws F = sep (w .𝓤) (Bytes (p .share) (p .bytes)) (sep (w .𝓤) (Words (refilled (p .words) ws)) F)

@@ -28,13 +28,13 @@ pub record Showing : Type 0 where
   pub file : Cells ℕ
   pub text : Cells ℕ
 
-pub record Showable (p : Showing) : Type 0 where
+pub record ShowingFits (p : Showing) : Type 0 where
   pub file : Slice 1 (p .file)
   pub text : length (p .text .held) ≡ 32768
 
 -- both, with these bytes for the text, beside F
-abbrev pub ShowLying : (w : World) → Showing → List ℕ → SProp (w .𝓤) → SProp (w .𝓤)
-ShowLying w p text F = sep (w .𝓤) (Bytes w (p .share) (p .file)) (sep (w .𝓤) (Text w (refilled (p .text) text)) F)
+abbrev pub ShowInCells : (w : World) → Showing → List ℕ → SProp (w .𝓤) → SProp (w .𝓤)
+ShowInCells w p text F = sep (w .𝓤) (Bytes w (p .share) (p .file)) (sep (w .𝓤) (Text w (refilled (p .text) text)) F)
 
 -- From the memory σ, beside F: it ends with the machine's value of an answer in a memory that holds the file as it was, the
 -- lent bytes as they were left, no more and no fewer, and F as it was.
@@ -44,7 +44,7 @@ pub record Shown (w : World) (p : Showing) (σ : Memory) (F : SProp (w .𝓤)) :
   pub memory : Memory
   pub ran : Ran show-routine (slice (p .file) ∷ pointer (p .text) ∷ []) σ (text-answer.lowered answer) memory
   pub text-many : length text ≡ 32768
-  pub holds : _⊨_ w memory (ShowLying w p text F)
+  pub holds : _⊨_ w memory (ShowInCells w p text F)
   pub answered : ShowAnswered (p .file .held) (p .text .held) answer text
 
 -- a share of a file's bytes, the part that is asked for and the bit of it to begin at, and words for its fields
@@ -55,7 +55,7 @@ pub record Asked : Type 0 where
   pub offset : ℕ
   pub words : Cells ℕ
 
-pub record Askable (p : Asked) : Type 0 where
+pub record AskedFits (p : Asked) : Type 0 where
   pub file : Slice 1 (p .file)
   pub part : p .part < 2 ^ 64
   pub offset : p .offset < 2 ^ 64
@@ -64,8 +64,8 @@ pub record Askable (p : Asked) : Type 0 where
 abbrev pub askedValues : Asked → List Val
 askedValues p = slice (p .file) ∷ vint w64 (p .part) ∷ vint w64 (p .offset) ∷ slice (p .words) ∷ []
 
-abbrev pub AskedLying : (w : World) → Asked → List ℕ → SProp (w .𝓤) → SProp (w .𝓤)
-AskedLying w p ws F = sep (w .𝓤) (Bytes w (p .share) (p .file)) (sep (w .𝓤) (Words w (refilled (p .words) ws)) F)
+abbrev pub AskedInCells : (w : World) → Asked → List ℕ → SProp (w .𝓤) → SProp (w .𝓤)
+AskedInCells w p ws F = sep (w .𝓤) (Bytes w (p .share) (p .file)) (sep (w .𝓤) (Words w (refilled (p .words) ws)) F)
 
 pub record PartRead (w : World) (p : Asked) (σ : Memory) (F : SProp (w .𝓤)) : Type 1 where
   pub answer : PartAnswer
@@ -74,6 +74,6 @@ pub record PartRead (w : World) (p : Asked) (σ : Memory) (F : SProp (w .𝓤)) 
   pub ran : Ran part-routine (askedValues p) σ (part-answer.lowered answer) memory
   pub answer-fits : WT (part-answer.lowered answer)
   pub words-many : length words ≡ length (p .words .held)
-  pub holds : _⊨_ w memory (AskedLying w p words F)
+  pub holds : _⊨_ w memory (AskedInCells w p words F)
   pub answered : PartAnswered (partListed (p .file .held) (p .part) (partFrom (p .file .held) (p .part) (p .offset) (p .words .held)))
       (p .words .held) answer words

@@ -25,7 +25,7 @@ use Rattle.gateway.proofs.gateway_update.Symbol.{routine as exported-routine}
 use Rattle.owner.specs.Cells.{Cells, refilled, Slice, slice}
 use Rattle.owner.specs.Machine.{Ran}
 use Rattle.owner.specs.Holds.{_⊨_}
-use Rattle.runs.specs.Sent.{Variant, plain, exported, Sent, passed, inputSent, AllFit, Shapes, Lying}
+use Rattle.runs.specs.Sent.{Variant, plain, exported, Sent, passed, inputSent, AllFit, Shapes, SentInCells}
 
 -- `update::graph_update`, which has its shapes by value, and `lent::graph_update` or `gateway_update`, which are lent them
 pub data Form : Type 0 where
@@ -47,14 +47,14 @@ abbrev pub Handed : Form → Type 0
 Handed by-value = Counted
 Handed (lent v) = Cells PositionSyntax
 
-pub record Countable (h : Counted) : Type 0 where
+pub record CountedFits (h : Counted) : Type 0 where
   pub all : length (h .shapes) ≡ 63
   pub fit : AllFit (h .shapes)
   pub count : h .count < 2 ^ 64
 
-abbrev pub Handable : (f : Form) → Handed f → Type 0
-Handable by-value h = Countable h
-Handable (lent v) d = Slice 40 d
+abbrev pub HandedFits : (f : Form) → Handed f → Type 0
+HandedFits by-value h = CountedFits h
+HandedFits (lent v) d = Slice 40 d
 
 abbrev pub handedValues : (f : Form) → Handed f → List Val
 handedValues by-value h = arrayVal (map shape.lowered (h .shapes)) ∷ vint w64 (h .count) ∷ []
@@ -85,9 +85,9 @@ updateValue (lent plain) a ss = lent-answer.lowered a
 updateValue (lent exported) a ss = exported-answer.lowered (exportedAnswer a)
 
 -- what is handed, with these shapes in its cells, beside F
-abbrev pub HandedLying : (w : World) (f : Form) → Handed f → List PositionSyntax → SProp (w .𝓤) → SProp (w .𝓤)
-HandedLying w by-value h ss F = F
-HandedLying w (lent v) d ss F = sep (w .𝓤) (Shapes w (refilled d ss)) F
+abbrev pub HandedInCells : (w : World) (f : Form) → Handed f → List PositionSyntax → SProp (w .𝓤) → SProp (w .𝓤)
+HandedInCells w by-value h ss F = F
+HandedInCells w (lent v) d ss F = sep (w .𝓤) (Shapes w (refilled d ss)) F
 
 -- A run from the memory σ, beside F. It ends, with the machine's value of an answer, in a memory that holds the bytes as they
 -- were, the words and the lent shapes as they were left, no more and no fewer, and F as it was. Answer, shapes and words are
@@ -101,7 +101,7 @@ pub record Updated (w : World) (f : Form) (p : Sent) (h : Handed f) (σ : Memory
   pub words-many : length words ≡ length (p .words .held)
   pub shapes-many : length shapes ≡ length (allOf f h)
   pub shapes-fit : AllFit shapes
-  pub holds : _⊨_ w memory (Lying w p words (HandedLying w f h shapes F))
+  pub holds : _⊨_ w memory (SentInCells w p words (HandedInCells w f h shapes F))
   pub answered :
       Answered (updateReading (inputSent p) (p .offset) (countOf f h) (used f h (allOf f h))) (used f h (allOf f h)) (p .recording) (p .words .held)
       answer (used f h shapes) words
