@@ -1,4 +1,2 @@
 pub mod Calls
 pub mod Demand
-pub mod Show
-pub mod Listing

@@ -1,14 +1,11 @@
 -- What global parameters and renderer data have in common, the names of each beginning with the word `p`.
 use Prim.Native.Nat.{ℕ, _+_, _-_, _*_}
 use mathlib.Core.List.{List, [], _∷_}
-use mathlib.Core.Bool.{true}
 use lib.ListN.{getD}
 use Rattle.rules.specs.Name.{third}
 use Rattle.rules.specs.Leaf as leaf
 use Rattle.rules.specs.Rule.{Rule, done, _>>=_, _>>_, pick}
 use Rattle.rules.specs.Derived.{take, flag, escaped, passiveBits, passiveValues, fold}
-use Rattle.position.specs.Shape.{default}
-use Rattle.position.specs.Position.{position}
 
 -- `self.take(name, width)?;`
 unfoldable pub number : ℕ → ℕ → Rule (Unit {0})
@@ -36,12 +33,6 @@ unfoldable pub payload : ℕ → Rule (Unit {0})
 payload p = do
   n ← escaped (p + leaf.bytesMinusOne) (4 ∷ 8 ∷ 16 ∷ [])
   passiveBits (p + leaf.payload) ((n + 1) * 8)
-
--- `self.position(p, &mut PositionSyntax::default(), true)?`
-unfoldable pub defaultPosition : ℕ → Rule (Unit {0})
-defaultPosition p = do
-  position p default true
-  done tt
 
 -- the two parameters of a resource and of a matrix
 unfoldable pub resourceParameters : ℕ → Rule (Unit {0})

@@ -1,6 +1,5 @@
 // What global parameters and renderer data have in common: passive_metadata.rs, `metadata_resource` and `metadata_reverb`, and
 // the lines that both repeat. The names of each begin with the word `p`.
-use position::PositionSyntax;
 use rules::Field;
 use rules::State;
 use rules::leaf;
@@ -8,7 +7,7 @@ ghost use Prim.Native.Nat.{_≤_, _<_, _^_};
 ghost use lib.ListN.{length};
 ghost use Rattle.rules.specs.Met.{Met, Sound};
 ghost use Rattle.fields.specs.Taken.{Narrow};
-ghost use Rattle.common.specs.Common.{number, numberIf, numberUnless, values, payload, defaultPosition, resourceParameters, metadataResource, reverbParameter, reverbParameters, metadataReverb};
+ghost use Rattle.common.specs.Common.{number, numberIf, numberUnless, values, payload, resourceParameters, metadataResource, reverbParameter, reverbParameters, metadataReverb};
 
 // A number on which nothing depends.
 pub fn number(bytes: &[u8], words: &mut [u64], s: State, name: u64, width: usize) -> State
@@ -79,20 +78,9 @@ pub fn payload(bytes: &[u8], words: &mut [u64], s: State, p: u64) -> State
     requires { ⌜ p < 2 ^ 38 ⌝ }
     ensures { λ r. ⌜ Met (payload p) (now (bytes .entry)) (now (words .entry)) s tt r (now (words .exit)) ⌝ }
 {
-    let n = fields::escaped(bytes, words, s, p + leaf::BYTES_MINUS_ONE, [4, 8, 16]);
+    let n = variable::escaped(bytes, words, s, p + leaf::BYTES_MINUS_ONE, [4, 8, 16]);
     let s1 = n.state;
-    fields::passive_bits(words, s1, p + leaf::PAYLOAD, (n.value as usize + 1) * 8)
-}
-
-// A full position, whose shape is of no use here.
-pub fn default_position(bytes: &[u8], words: &mut [u64], s: State, p: u64) -> State
-    requires { ⌜ Sound s ⌝ }
-    requires { ⌜ p < 2 ^ 38 ⌝ }
-    ensures { λ r. ⌜ Met (defaultPosition p) (now (bytes .entry)) (now (words .entry)) s tt r (now (words .exit)) ⌝ }
-{
-    let shape = PositionSyntax::default();
-    let a = position::position(bytes, words, s, p, shape, true);
-    a.state
+    variable::passive_bits(words, s1, p + leaf::PAYLOAD, (n.value as usize + 1) * 8)
 }
 
 // The two parameters of a resource and of a matrix.
@@ -101,9 +89,9 @@ pub fn resource_parameters(bytes: &[u8], words: &mut [u64], s: State, p: u64) ->
     requires { ⌜ p < 2 ^ 39 ⌝ }
     ensures { λ r. ⌜ Met (resourceParameters p) (now (bytes .entry)) (now (words .entry)) s tt r (now (words .exit)) ⌝ }
 {
-    let a = fields::escaped(bytes, words, s, p + leaf::PARAMETER_0, [1, 3, 8]);
+    let a = variable::escaped(bytes, words, s, p + leaf::PARAMETER_0, [1, 3, 8]);
     let s1 = a.state;
-    let b = fields::escaped(bytes, words, s1, p + leaf::PARAMETER_1, [1, 3, 8]);
+    let b = variable::escaped(bytes, words, s1, p + leaf::PARAMETER_1, [1, 3, 8]);
     b.state
 }
 

@@ -1,15 +1,15 @@
 -- `metadata_compression`: the field rules of a compression configuration of `size` bytes.
-use Prim.Native.Nat.{ℕ, _+_, _-_, _*_, _%_, _^_}
+use Prim.Native.Nat.{ℕ, _+_, _-_, _*_, _%_}
 use mathlib.Core.List.{[], _∷_}
 use mathlib.Core.Bool.{_||_}
 use lib.Dec.{leb, ltb, eqb}
 use lib.Ieee.Scale.{finite}
-use Rattle.rules.specs.Name.{third}
 use Rattle.rules.specs.Block as block
 use Rattle.rules.specs.Leaf as leaf
 use Rattle.rules.specs.Rule.{Rule, done, refused, _>>=_, _>>_, pick, position, end, setEnd}
-use Rattle.rules.specs.Derived.{_⇒_, choose, take, flag, escaped, passiveBits, repeat, stop, demand, remaining, count}
-use Rattle.compression.specs.Probability.{fromBits, probabilities}
+use Rattle.rules.specs.Derived.{_⇒_, choose, take, flag, escaped, passiveBits, stop, demand, remaining}
+use Rattle.probability.specs.Probability.{fromBits}
+use Rattle.code_tables.specs.Tables.{tables}
 
 -- `if initial > 15 || maximum > 16 { .. }`
 unfoldable pub lzwWidths : ℕ → ℕ → Rule (Unit {0})
@@ -21,35 +21,6 @@ lzw = do
   initial ← escaped (block.compression + leaf.initialWidthMinusOne) (5 ∷ 8 ∷ 16 ∷ [])
   delta ← escaped (block.compression + leaf.maximumWidthDelta) (3 ∷ 8 ∷ 16 ∷ [])
   lzwWidths (initial + 1) (initial + 1 + delta)
-
--- codeword `j` of the table whose names begin with `q`
-unfoldable pub codeword : ℕ → ℕ → Rule (Unit {0})
-codeword q j = do
-  w ← escaped (q + leaf.codeWidthMinusOne + third * j) (5 ∷ 8 ∷ 16 ∷ [])
-  demand (leb (w + 1) 64) (refused 21)
-  take (q + leaf.code + third * j) (w + 1)
-  done tt
-
--- `1 << w` entries: codewords if the type is 3, else probabilities
-unfoldable pub entries : ℕ → ℕ → ℕ → Rule (Unit {0})
-entries kind q w = pick (eqb kind 3) (repeat (codeword q) (2 ^ w)) (probabilities q (2 ^ w))
-
--- table `i`
-unfoldable pub table : ℕ → ℕ → Rule (Unit {0})
-table kind i = do
-  w ← escaped (block.tables i + leaf.symbolWidthMinusOne) (5 ∷ 8 ∷ 16 ∷ [])
-  demand (leb (w + 1) 12) (refused 20)
-  entries kind (block.tables i) (w + 1)
-
-unfoldable pub tableCount : Rule ℕ
-tableCount = do
-  n ← escaped (block.compression + leaf.tableCountMinusOne) (3 ∷ 8 ∷ 16 ∷ [])
-  count (n + 1) 5
-
-unfoldable pub tables : ℕ → Rule (Unit {0})
-tables kind = do
-  n ← tableCount
-  repeat (table kind) n
 
 -- `if kind != 3 && self.flag(parameter_present)? { .. }`
 unfoldable pub parameter : Rule (Unit {0})

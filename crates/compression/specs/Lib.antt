@@ -1,2 +1,1 @@
-pub mod Probability
 pub mod Compression

@@ -5,19 +5,21 @@ use Prim.Native.String.{String}
 use mathlib.Core.Path.{_≡_}
 use mathlib.Core.List.{List, [], _∷_, _++_, map}
 use mathlib.Core.Bool.{false}
-use lib.ListN.{length, take}
+use lib.ListN.{length, take, replicate}
 use Rattle.rules.specs.declared.Outcome.{Outcome}
-use Rattle.rules.specs.declared.Outcome.the-variants.{Read, Refused}
+use Rattle.rules.specs.declared.Outcome.the-variants.{Read, Refused, Stopped}
 use Rattle.rules.specs.Rule.{Rule}
 use Rattle.rules.specs.Reading.{Reading, reading}
 use Rattle.rules.specs.Derived.{escaped}
 use Rattle.rules.specs.Answer.{outcomeOf, valueOr}
 use Rattle.validation.specs.Rank.{parents}
-use Rattle.compression.specs.Probability.{floats}
+use Rattle.probability.specs.Probability.{floats}
+use Rattle.metadata.specs.Entry.{metadataReading}
 use Rattle.text.specs.Text.{ascii}
-use Rattle.book.specs.Book.{Packet, packetOf, bookScene, bookFirst, bookReading, bookShapes}
-use Rattle.show.specs.Header.{fileQuestion}
-use Rattle.show.specs.Show.{packet, showText, fileOutcome}
+use Rattle.book.specs.Book.{Packet, packetOf, input, bookScene, bookFirst, bookReading, bookShapes}
+use Rattle.show_header.specs.Header.{fileQuestion}
+use Rattle.show_parts.specs.Parts.{packet}
+use Rattle.show.specs.Show.{showText, fileOutcome}
 use Rattle.part.specs.Part.{partListed}
 use Rattle.listings.specs.Printed.{partListing}
 
@@ -33,6 +35,8 @@ pub data Example : Type 0 where
   showIn : (file : List ℕ) → Example
   -- a part of one, listed
   partIn : (file : List ℕ) (k : ℕ) → Example
+  -- a metadata configuration
+  metadataIn : (bytes : List ℕ) → Example
   -- a table's probabilities at precision 32, of these patterns
   probabilitiesOf : (patterns : List ℕ) → Example
 
@@ -74,6 +78,7 @@ given (packetAfter scene before bs) =
 given (showIn file) = record { example = showIn file; outcome = fileOutcome (fileQuestion file); position = 0; fields = 0; values = showText file }
 given (partIn file k) =
     record { example = partIn file k; outcome = fileOutcome (fileQuestion file); position = 0; fields = 0; values = partListing (partListed file k (packet file k)) }
+given (metadataIn bs) = row (metadataIn bs) (metadataReading (input (packetIn bs)) 0) (λ _. []) tt
 given (probabilitiesOf xs) = row (probabilitiesOf xs) (whole (bytesOf xs) (floats 0 (length xs))) (λ _. []) tt
 
 abbrev pub AllHold : List Row → Type 0
@@ -168,6 +173,17 @@ rows =
     } ∷
     -- a file of no bytes
     record { example = showIn []; outcome = Refused 24; position = 0; fields = 0; values = lines ("file refused 24" ∷ []) } ∷
+    -- metadata: no configuration; one of nothing
+    record { example = metadataIn (0x00 ∷ []); outcome = Refused 10; position = 2; fields = 2; values = [] } ∷
+    record { example = metadataIn (0x40 ∷ []); outcome = Read; position = 7; fields = 4; values = [] } ∷
+    -- headphones of 2 bytes: 3 channels are one bit too many, 2 leave two bits of padding
+    record { example = metadataIn (0x63 ∷ 0xE0 ∷ 0x04 ∷ 0x08 ∷ []); outcome = Refused 18; position = 30; fields = 7; values = [] } ∷
+    record { example = metadataIn (0x63 ∷ 0xE0 ∷ 0x04 ∷ 0x04 ∷ 0x00 ∷ 0x00 ∷ []); outcome = Read; position = 42; fields = 11; values = [] } ∷
+    -- a compression of type 0 in one byte: an initial width of 8, and one of 16
+    record { example = metadataIn (0x81 ∷ 0x38 ∷ 0x80 ∷ []); outcome = Read; position = 22; fields = 8; values = [] } ∷
+    record { example = metadataIn (0x81 ∷ 0x78 ∷ []); outcome = Stopped 35; position = 16; fields = 5; values = [] } ∷
+    -- a matrix of order 1 and layout 00010001 (hexadecimal): four coefficients of 16 bits after their scale
+    record { example = metadataIn (0x42 ∷ 0x18 ∷ 0xF8 ∷ 0x74 ∷ 0x40 ∷ 0x00 ∷ 0x40 ∷ 0x00 ∷ 0x40 ∷ replicate 12 0); outcome = Read; position = 163; fields = 15; values = [] } ∷
     -- probabilities: 2^-24 added to 1 is lost, and again; two of them before it are not; -0 passes
     record { example = probabilitiesOf (0x3F80_0000 ∷ 0x3380_0000 ∷ 0x3380_0000 ∷ 0 ∷ []); outcome = Read; position = 128; fields = 4; values = [] } ∷
     record { example = probabilitiesOf (0x3380_0000 ∷ 0x3380_0000 ∷ 0x3F80_0000 ∷ 0 ∷ []); outcome = Refused 22; position = 128; fields = 4; values = [] } ∷

@@ -13,7 +13,7 @@ use Rattle.position.specs.declared.PositionSyntax.{PositionSyntax}
 use Rattle.scene.specs.declared.SceneAnswer.{SceneAnswer}
 use Rattle.scene.specs.Scene.{SceneAnswered}
 use Rattle.text.specs.declared.TextAnswer.{TextAnswer}
-use Rattle.names.specs.NameText.{NameAnswered}
+use Rattle.names.specs.NameAnswer.{NameAnswered}
 use Rattle.gateway.specs.declared.GatewayAnswer.{GatewayAnswer}
 use Rattle.gateway.specs.declared.GatewayScene.{GatewayScene}
 

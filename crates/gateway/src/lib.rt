@@ -6,12 +6,12 @@ use rules::Outcome;
 ghost use mathlib.Core.Path.{_≡_};
 ghost use lib.ListN.{length};
 ghost use Rattle.rules.specs.Answer.{inputOf, answerOf, outcomeNumber};
-ghost use Rattle.position.specs.Entry.{positionReading};
+ghost use Rattle.position_alone.specs.Entry.{positionReading};
 ghost use Rattle.validation.specs.Validation.{validationReading};
 ghost use Rattle.scene.specs.Scene.{sceneReading};
 ghost use Rattle.update.specs.Update.{updateReading};
 ghost use Rattle.metadata.specs.Entry.{metadataReading};
-ghost use Rattle.names.specs.NameText.{nameQuestion};
+ghost use Rattle.names.specs.NameAnswer.{nameQuestion};
 ghost use Rattle.gateway.specs.Exported.{outcomeCode, told, exported, SceneExported, Exported, NameExported};
 
 // An answer: the outcome is 0 if read, 1 if refused and 2 if stopped, and the number 0 if read. Counted are the fields of a

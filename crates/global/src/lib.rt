@@ -3,9 +3,12 @@
 use rules::Field;
 use rules::State;
 use rules::leaf;
-ghost use Prim.Native.Nat.{_≤_, _<_, _^_};
-ghost use Rattle.rules.specs.Met.{Met, MetByWords, Sound};
-ghost use Rattle.global.specs.Global.{gainValues, gain, item, items, mask, maskedItems, hrtfResource, hrtfType, hrtf, speakerType, speaker, speakers, layout, labelledLayout, predefinedIndex, resourceReference, predefined, channels, padding, paddedChannels, headphoneChannels, headphones, metadataGlobalParameter};
+ghost use Prim.Native.Nat.{_<_, _^_};
+ghost use Rattle.rules.specs.Met.{Met, Sound};
+ghost use Rattle.headphones.specs.Headphones.{headphones};
+ghost use Rattle.hrtf.specs.Hrtf.{hrtf};
+ghost use Rattle.speakers.specs.Speakers.{speakers};
+ghost use Rattle.global.specs.Global.{gainValues, gain, item, items, mask, maskedItems, predefinedIndex, resourceReference, predefined, metadataGlobalParameter};
 
 // Kind 5: the four values of a gain, Cartesian or not.
 fn gain_values(bytes: &[u8], words: &mut [u64], s: State, p: u64) -> State
@@ -88,7 +91,7 @@ fn mask(bytes: &[u8], words: &mut [u64], s: State, p: u64) -> State
 {
     let n = fields::take(bytes, words, s, p + leaf::MASK_BITS_MINUS_ONE, 7);
     let s1 = n.state;
-    fields::passive_bits(words, s1, p + leaf::MASK, n.value as usize + 1)
+    variable::passive_bits(words, s1, p + leaf::MASK, n.value as usize + 1)
 }
 
 // Three values, nine items and a mask.
@@ -103,134 +106,13 @@ fn masked_items(bytes: &[u8], words: &mut [u64], s: State, p: u64) -> State
     mask(bytes, words, s2, p)
 }
 
-// Kind 7, type 2: a resource, which is stopped after its mode.
-fn hrtf_resource(bytes: &[u8], words: &mut [u64], s: State, p: u64) -> State
-    requires { ⌜ Sound s ⌝ }
-    requires { ⌜ p < 2 ^ 38 ⌝ }
-    ensures { λ r. ⌜ Met (hrtfResource p) (now (bytes .entry)) (now (words .entry)) s tt r (now (words .exit)) ⌝ }
-{
-    let s1 = common::metadata_resource(bytes, words, s, p + leaf::RESOURCE);
-    let a = fields::take(bytes, words, s1, p + leaf::MODE, 3);
-    let s2 = a.state;
-    fields::stop(s2, 33)
-}
-
-// What follows the type.
-fn hrtf_type(bytes: &[u8], words: &mut [u64], s: State, p: u64, of: u64) -> State
-    requires { ⌜ Sound s ⌝ }
-    requires { ⌜ p < 2 ^ 38 ⌝ }
-    ensures { λ r. ⌜ Met (hrtfType p of) (now (bytes .entry)) (now (words .entry)) s tt r (now (words .exit)) ⌝ }
-{
-    match of {
-        0 => s,
-        1 => common::number(bytes, words, s, p + leaf::INDEX, 8),
-        2 => hrtf_resource(bytes, words, s, p),
-        _ => fields::stop(s, 34),
-    }
-}
-
-// A head-related transfer function.
-fn hrtf(bytes: &[u8], words: &mut [u64], s: State, p: u64) -> State
-    requires { ⌜ Sound s ⌝ }
-    requires { ⌜ p < 2 ^ 38 ⌝ }
-    ensures { λ r. ⌜ Met (hrtf p) (now (bytes .entry)) (now (words .entry)) s tt r (now (words .exit)) ⌝ }
-{
-    let s1 = common::number_if(
-        bytes,
-        words,
-        s,
-        p + leaf::VALUE_PRESENT,
-        p + leaf::VALUE_ENCODED,
-        32,
-    );
-    let a = fields::take(bytes, words, s1, p + leaf::TYPE, 3);
-    let s2 = a.state;
-    hrtf_type(bytes, words, s2, p, a.value)
-}
-
-// Kind 9: the value and type of a speaker.
-fn speaker_type(bytes: &[u8], words: &mut [u64], s: State, q: u64) -> State
-    requires { ⌜ Sound s ⌝ }
-    requires { ⌜ q < 2 ^ 51 ⌝ }
-    ensures { λ r. ⌜ Met (speakerType q) (now (bytes .entry)) (now (words .entry)) s tt r (now (words .exit)) ⌝ }
-{
-    let s1 = common::number(bytes, words, s, q + leaf::SPEAKER_VALUE_ENCODED, 7);
-    common::number(bytes, words, s1, q + leaf::SPEAKER_TYPE, 3)
-}
-
-// One speaker.
-fn speaker(bytes: &[u8], words: &mut [u64], s: State, q: u64) -> State
-    requires { ⌜ Sound s ⌝ }
-    requires { ⌜ q < 2 ^ 51 ⌝ }
-    ensures { λ r. ⌜ Met (speaker q) (now (bytes .entry)) (now (words .entry)) s tt r (now (words .exit)) ⌝ }
-{
-    let widths: [usize; 3] = [4, 9, 8];
-    let s1 = fields::passive_values(
-        bytes,
-        words,
-        s,
-        q + leaf::SPEAKER_ENCODED,
-        Field::FOURTH,
-        &widths,
-    );
-    let s2 = common::number_unless(
-        bytes,
-        words,
-        s1,
-        q + leaf::SPEAKER_DEFAULT_DISTANCE,
-        q + leaf::SPEAKER_DISTANCE_ENCODED,
-        4,
-    );
-    speaker_type(bytes, words, s2, q)
-}
-
-// So many speakers.
-fn speakers(bytes: &[u8], words: &mut [u64], s: State, p: u64, n: u64) -> State
-    requires { ⌜ Sound s ⌝ }
-    requires { ⌜ p < 2 ^ 38 ⌝ }
-    requires { ⌜ n < 2 ^ 8 ⌝ }
-    ensures { λ r. ⌜ Met (speakers p n) (now (bytes .entry)) (now (words .entry)) s tt r (now (words .exit)) ⌝ }
-{
-    let mut t = s;
-    let mut i: u64 = 0;
-    while i < n && t.is_read() {
-        t = speaker(bytes, words, t, p + Field::THIRD * i);
-        i += 1;
-    }
-    t
-}
-
-// A layout of speakers.
-fn layout(bytes: &[u8], words: &mut [u64], s: State, p: u64) -> State
-    requires { ⌜ Sound s ⌝ }
-    requires { ⌜ p < 2 ^ 38 ⌝ }
-    ensures { λ r. ⌜ Met (layout p) (now (bytes .entry)) (now (words .entry)) s tt r (now (words .exit)) ⌝ }
-{
-    let a = fields::take(bytes, words, s, p + leaf::LAYOUT_ENCODED, 4);
-    let s1 = a.state;
-    let n = fields::drc_count(bytes, words, s1, p + leaf::SPEAKER_COUNT, 8, 33);
-    let s2 = n.state;
-    speakers(bytes, words, s2, p, n.value)
-}
-
-// A resource, a label and a layout.
-fn labelled_layout(bytes: &[u8], words: &mut [u64], s: State, p: u64) -> State
-    requires { ⌜ Sound s ⌝ }
-    requires { ⌜ p < 2 ^ 38 ⌝ }
-    ensures { λ r. ⌜ Met (labelledLayout p) (now (bytes .entry)) (now (words .entry)) s tt r (now (words .exit)) ⌝ }
-{
-    let s1 = common::metadata_resource(bytes, words, s, p + leaf::RESOURCE);
-    let s2 = fields::label(bytes, words, s1, p + leaf::LABEL);
-    layout(bytes, words, s2, p)
-}
-
 // Kind 12: the index of something predefined.
 fn predefined_index(bytes: &[u8], words: &mut [u64], s: State, p: u64) -> State
     requires { ⌜ Sound s ⌝ }
     requires { ⌜ p < 2 ^ 38 ⌝ }
     ensures { λ r. ⌜ Met (predefinedIndex p) (now (bytes .entry)) (now (words .entry)) s tt r (now (words .exit)) ⌝ }
 {
-    let a = fields::escaped(bytes, words, s, p + leaf::INDEX, [3, 6, 10]);
+    let a = variable::escaped(bytes, words, s, p + leaf::INDEX, [3, 6, 10]);
     a.state
 }
 
@@ -241,9 +123,9 @@ fn resource_reference(bytes: &[u8], words: &mut [u64], s: State, p: u64) -> Stat
     ensures { λ r. ⌜ Met (resourceReference p) (now (bytes .entry)) (now (words .entry)) s tt r (now (words .exit)) ⌝ }
 {
     let s1 = common::metadata_resource(bytes, words, s, p + leaf::RESOURCE);
-    let a = fields::escaped(bytes, words, s1, p + leaf::PARAMETER_0, [3, 6, 10]);
+    let a = variable::escaped(bytes, words, s1, p + leaf::PARAMETER_0, [3, 6, 10]);
     let s2 = a.state;
-    let b = fields::escaped(bytes, words, s2, p + leaf::PARAMETER_1, [4, 8, 16]);
+    let b = variable::escaped(bytes, words, s2, p + leaf::PARAMETER_1, [4, 8, 16]);
     b.state
 }
 
@@ -259,72 +141,6 @@ fn predefined(bytes: &[u8], words: &mut [u64], s: State, p: u64) -> State
         return predefined_index(bytes, words, s1, p);
     }
     resource_reference(bytes, words, s1, p)
-}
-
-// Kind 15: so many headphone channels.
-fn channels(bytes: &[u8], words: &mut [u64], s: State, p: u64, n: u64) -> State
-    requires { ⌜ Sound s ⌝ }
-    requires { ⌜ p < 2 ^ 38 ⌝ }
-    requires { ⌜ n ≤ 256 ⌝ }
-    ensures { λ r. ⌜ Met (channels p n) (now (bytes .entry)) (now (words .entry)) s tt r (now (words .exit)) ⌝ }
-{
-    let mut t = s;
-    let mut i: u64 = 0;
-    while i < n && t.is_read() {
-        t = common::number(bytes, words, t, p + leaf::CHANNELS + Field::THIRD * i, 3);
-        i += 1;
-    }
-    t
-}
-
-// Padding up to bit `end`.
-fn padding(words: &mut [u64], s: State, p: u64, end: usize) -> State
-    requires { ⌜ Sound s ⌝ }
-    requires { ⌜ p < 2 ^ 38 ⌝ }
-    ensures { λ r. ⌜ MetByWords (padding p end) (now (words .entry)) s tt r (now (words .exit)) ⌝ }
-{
-    let at = s.position;
-    if end <= at {
-        return s;
-    }
-    fields::passive_bits(words, s, p + leaf::PADDING, end - at)
-}
-
-// Channels, and padding up to bit `end`.
-fn padded_channels(bytes: &[u8], words: &mut [u64], s: State, p: u64, n: u64, end: usize) -> State
-    requires { ⌜ Sound s ⌝ }
-    requires { ⌜ p < 2 ^ 38 ⌝ }
-    requires { ⌜ n ≤ 256 ⌝ }
-    ensures { λ r. ⌜ Met (paddedChannels p n end) (now (bytes .entry)) (now (words .entry)) s tt r (now (words .exit)) ⌝ }
-{
-    let s1 = channels(bytes, words, s, p, n);
-    padding(words, s1, p, end)
-}
-
-// Channels that have `bits` bits, of which the first are their count.
-fn headphone_channels(bytes: &[u8], words: &mut [u64], s: State, p: u64, bits: usize) -> State
-    requires { ⌜ Sound s ⌝ }
-    requires { ⌜ p < 2 ^ 38 ⌝ }
-    requires { ⌜ bits ≤ 128 ⌝ }
-    ensures { λ r. ⌜ Met (headphoneChannels p bits) (now (bytes .entry)) (now (words .entry)) s tt r (now (words .exit)) ⌝ }
-{
-    let n = fields::take(bytes, words, s, p + leaf::CHANNELS_MINUS_ONE, 8);
-    let s1 = n.state;
-    if bits < (n.value as usize + 1) * 3 + 8 {
-        return fields::invalid(s1, 18);
-    }
-    padded_channels(bytes, words, s1, p, n.value + 1, s.position + bits)
-}
-
-// Headphone channels in as many bytes as it says.
-fn headphones(bytes: &[u8], words: &mut [u64], s: State, p: u64) -> State
-    requires { ⌜ Sound s ⌝ }
-    requires { ⌜ p < 2 ^ 38 ⌝ }
-    ensures { λ r. ⌜ Met (headphones p) (now (bytes .entry)) (now (words .entry)) s tt r (now (words .exit)) ⌝ }
-{
-    let n = fields::take(bytes, words, s, p + leaf::BYTES_MINUS_ONE, 4);
-    let s1 = n.state;
-    headphone_channels(bytes, words, s1, p, (n.value as usize + 1) * 8)
 }
 
 // `metadata_global_parameter`.
@@ -348,21 +164,21 @@ pub fn metadata_global_parameter(
         }
         5 => gain(bytes, words, s, p),
         6 => masked_items(bytes, words, s, p),
-        7 => hrtf(bytes, words, s, p),
+        7 => hrtf::hrtf(bytes, words, s, p),
         8 => common::metadata_resource(bytes, words, s, p),
-        9 => labelled_layout(bytes, words, s, p),
+        9 => speakers::labelled_layout(bytes, words, s, p),
         10 => {
             let widths: [usize; 5] = [3, 32, 32, 32, 1];
             common::values(bytes, words, s, p + leaf::GLOBAL_VALUES, &widths)
         }
-        11 => common::default_position(bytes, words, s, p),
+        11 => default_position::default_position(bytes, words, s, p),
         12 => predefined(bytes, words, s, p),
         13 => common::number(bytes, words, s, p + leaf::ENCODED, 6),
         14 => {
             let widths: [usize; 2] = [4, 8];
             common::values(bytes, words, s, p + leaf::GLOBAL_VALUES, &widths)
         }
-        15 => headphones(bytes, words, s, p),
+        15 => headphones::headphones(bytes, words, s, p),
         _ => common::payload(bytes, words, s, p),
     }
 }

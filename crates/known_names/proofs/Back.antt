@@ -12,7 +12,7 @@ use Rattle.rules.specs.Rule.{Rule}
 use Rattle.rules.specs.Words.{recorded, fieldAt}
 use Rattle.rules.specs.Answer.{inputOf, entryReading, Answered}
 use Rattle.position.specs.declared.PositionSyntax.{PositionSyntax}
-use Rattle.position.specs.Entry.{positionReading}
+use Rattle.position_alone.specs.Entry.{positionReading}
 use Rattle.scene.specs.declared.SceneAnswer.{SceneAnswer}
 use Rattle.scene.specs.Scene.{sceneReading, SceneAnswered}
 use Rattle.update.specs.declared.UpdateAnswer.{UpdateAnswer}

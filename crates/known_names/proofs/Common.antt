@@ -7,7 +7,8 @@ use native.Mathlib.Omega.{arith}
 use lib.Dec.{leb}
 use lib.ListN.{length}
 use Rattle.rules.specs.Leaf as leaf
-use Rattle.common.specs.Common.{number, numberIf, numberUnless, values, payload, defaultPosition, resourceParameters, metadataResource, reverbParameter, reverbParameters, metadataReverb}
+use Rattle.common.specs.Common.{number, numberIf, numberUnless, values, payload, resourceParameters, metadataResource, reverbParameter, reverbParameters, metadataReverb}
+use Rattle.default_position.specs.DefaultPosition.{defaultPosition}
 use Rattle.laws.proofs.Named.{names-fold, names-passive-values}
 use Rattle.known_names.specs.Known.{Known, KnownNames}
 use Rattle.known_names.proofs.Words.{Begun, thirds, known-third, known-names}

@@ -5,8 +5,9 @@ use mathlib.Core.List.{[], _∷_}
 use lib.Ieee.{Float}
 use lib.Pow.{pow-mono}
 use Rattle.rules.specs.Leaf as leaf
-use Rattle.compression.specs.Probability.{addFloat, floats, addInteger, integers, probabilities}
-use Rattle.compression.specs.Compression.{lzwWidths, lzw, codeword, entries, table, tableCount, tables, parameter, parameterIfPresent, padding, paddedTables, contents, metadataCompression}
+use Rattle.probability.specs.Probability.{addFloat, floats, addInteger, integers, probabilities}
+use Rattle.code_tables.specs.Tables.{codeword, entries, table, tableCount, tables}
+use Rattle.compression.specs.Compression.{lzwWidths, lzw, parameter, parameterIfPresent, padding, paddedTables, contents, metadataCompression}
 use Rattle.numbers.specs.Meaning.{HasWords}
 use Rattle.numbers.proofs.Distinct.{has-words}
 use Rattle.laws.specs.Named.{Names}

@@ -8,7 +8,7 @@ use Rattle.rules.specs.declared.Outcome.{Outcome}
 use Rattle.rules.specs.Reading.{Input}
 use Rattle.rules.specs.Answer.{answerOf}
 use Rattle.position.specs.declared.PositionSyntax.{PositionSyntax}
-use Rattle.position.specs.Entry.{positionReading}
+use Rattle.position_alone.specs.Entry.{positionReading}
 use Rattle.validation.specs.Validation.{validationReading}
 use Rattle.scene.specs.Scene.{sceneReading}
 use Rattle.update.specs.Update.{updateReading}

@@ -4,7 +4,10 @@ use mathlib.Core.Path.{refl}
 use mathlib.Core.List.{[], _∷_}
 use native.Mathlib.Omega.{arith}
 use Rattle.rules.specs.Leaf as leaf
-use Rattle.global.specs.Global.{gainValues, gain, item, items, mask, maskedItems, hrtfResource, hrtfType, hrtf, speakerType, speaker, speakers, layout, labelledLayout, predefinedIndex, resourceReference, predefined, channels, padding, paddedChannels, headphoneChannels, headphones, metadataGlobalParameter}
+use Rattle.headphones.specs.Headphones.{channels, padding, paddedChannels, headphoneChannels, headphones}
+use Rattle.hrtf.specs.Hrtf.{hrtfResource, hrtfType, hrtf}
+use Rattle.speakers.specs.Speakers.{speakerType, speaker, speakers, layout, labelledLayout}
+use Rattle.global.specs.Global.{gainValues, gain, item, items, mask, maskedItems, predefinedIndex, resourceReference, predefined, metadataGlobalParameter}
 use Rattle.numbers.proofs.Distinct.{has-words}
 use Rattle.laws.proofs.Named.{names-then, names-position, take-then, most-then}
 use Rattle.known_names.specs.Known.{KnownNames}

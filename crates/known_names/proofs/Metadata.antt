@@ -6,7 +6,9 @@ use mathlib.Core.Bool.{true}
 use native.Mathlib.Omega.{arith}
 use Rattle.rules.specs.Leaf as leaf
 use Rattle.rules.specs.Reading.{Input}
-use Rattle.metadata.specs.Metadata.{metadataEsc, metadataNumber, compression, compressionIfPresent, configurationPresent, parameter, eachParameter, parameters, parametersIfPresent, secondParameter, bothParameters, componentParameters, componentReference, eachChannelIndex, channelIndices, channels, component, componentUnlessDefault, dataIfPresent, group, eachGroup, groups, parametersAndGroups, metadataConfiguration}
+use Rattle.component.specs.Component.{metadataEsc, metadataNumber, secondParameter, bothParameters, componentParameters, componentReference, eachChannelIndex, channelIndices, channels, component, componentUnlessDefault}
+use Rattle.configuration.specs.Configuration.{compression, compressionIfPresent, parameter, eachParameter, parameters, parametersIfPresent, dataIfPresent, group, eachGroup, groups, parametersAndGroups}
+use Rattle.metadata.specs.Metadata.{configurationPresent, metadataConfiguration}
 use Rattle.metadata.specs.Entry.{metadataReading}
 use Rattle.laws.proofs.Named.{escaped-then}
 use Rattle.known_names.specs.Known.{Known, KnownNames, AllKnown}

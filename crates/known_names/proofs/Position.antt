@@ -12,8 +12,11 @@ use Rattle.rules.specs.Rule.{pick}
 use Rattle.rules.specs.Reading.{Input}
 use Rattle.rules.proofs.Pick.{by-pick}
 use Rattle.position.specs.declared.PositionSyntax.{PositionSyntax}
-use Rattle.position.specs.Position.{dynamics, precisions, header, changed, newParent, parent, range, flagUnless, bases, howMany, widthsOf, coordinateValues, coordinates, coordinatesIfPresent, rotationValues, rotation, extensionBody, extension, extensions, extensionsIfPresent, beforeRange, afterRange, position}
-use Rattle.position.specs.Entry.{isShaped, positionReading}
+use Rattle.extensions.specs.Extensions.{extensionBody, extension, extensions, extensionsIfPresent}
+use Rattle.coordinates.specs.Coordinates.{bases, howMany, widthsOf, coordinateValues}
+use Rattle.position.specs.Position.{dynamics, precisions, header, changed, newParent, parent, range, flagUnless, coordinates, coordinatesIfPresent, rotationValues, rotation, beforeRange, afterRange, position}
+use Rattle.position.specs.Formed.{isShaped}
+use Rattle.position_alone.specs.Entry.{positionReading}
 use Rattle.numbers.proofs.Distinct.{has-words}
 use Rattle.laws.proofs.Named.{names-ends, names-passive-values}
 use Rattle.known_names.specs.Known.{Known, KnownNames, AllKnown}

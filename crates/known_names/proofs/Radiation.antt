@@ -4,7 +4,8 @@ use mathlib.Core.Path.{refl}
 use mathlib.Core.List.{[], _∷_}
 use native.Mathlib.Omega.{arith}
 use Rattle.rules.specs.Leaf as leaf
-use Rattle.radiation.specs.Radiation.{rendererPrecision, compactOrPrecise, anglesAndGain, bandValues, band, countPlusOne, eachBand, bands, gainAndAngle, pattern, precisionWidth, patternOfPrecision, size, sizes, coefficients, resourceIndex, rendererRadiation}
+use Rattle.bands.specs.Bands.{rendererPrecision, compactOrPrecise, anglesAndGain, bandValues, band, countPlusOne, eachBand, bands}
+use Rattle.radiation.specs.Radiation.{gainAndAngle, pattern, size, sizes, precisionWidth, patternOfPrecision, coefficients, resourceIndex, rendererRadiation}
 use Rattle.numbers.specs.Meaning.{HasWords}
 use Rattle.numbers.proofs.Distinct.{has-words}
 use Rattle.laws.specs.Named.{Names}

@@ -7,8 +7,9 @@ use borrow.Author.Tests.{le-leb}
 use lib.Dec.{leb}
 use lib.ListN.{length}
 use Rattle.rules.specs.Rule.{pick}
-use Rattle.names.specs.NameText.{nameText, roomQuestion, nameQuestion}
-use Rattle.names.proofs.Lengths.{name-short, known-small}
+use Rattle.name_words.specs.NameText.{nameText}
+use Rattle.name_words.proofs.Lengths.{name-short, known-small}
+use Rattle.names.specs.NameAnswer.{roomQuestion, nameQuestion}
 use Rattle.known_names.specs.Known.{Known}
 
 not-25 : (b : Bool) → pick {A = ℕ} b 0 26 ≡ 25 → ⊥

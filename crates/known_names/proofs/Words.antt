@@ -13,8 +13,9 @@ use Rattle.rules.specs.Derived.{among}
 use Rattle.rules.proofs.Laws.{never, both}
 use Rattle.text.specs.Text.{ascii}
 use Rattle.text.specs.Table.{row}
-use Rattle.names.specs.Table.{blocks, leaves, greatestFirst, greatestSecond, inRange, standsIn}
-use Rattle.names.specs.NameText.{known}
+use Rattle.name_table.specs.Table.{blocks, leaves}
+use Rattle.name_row.specs.Row.{greatestFirst, greatestSecond, inRange, standsIn}
+use Rattle.name_words.specs.NameText.{known}
 use Rattle.numbers.proofs.Distinct.{has-words}
 use Rattle.laws.proofs.Names.{parts-back}
 use Rattle.laws.proofs.Named.{names}

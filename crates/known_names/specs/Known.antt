@@ -12,7 +12,7 @@ use Rattle.rules.specs.declared.Outcome.the-variants.{Refused, Stopped}
 use Rattle.rules.specs.Rule.{Rule}
 use Rattle.rules.specs.Reading.{Reading}
 use Rattle.rules.specs.Words.{fieldAt}
-use Rattle.names.specs.NameText.{known}
+use Rattle.name_words.specs.NameText.{known}
 use Rattle.numbers.specs.Meaning.{HasWords}
 use Rattle.laws.specs.Named.{Names, Any, Told}
 

@@ -14,7 +14,7 @@ use Rattle.rules.specs.Met.{Gives}
 use Rattle.rules.proofs.Laws.{never}
 use Rattle.rules.proofs.Answers.{value-unread, value-of-read, answerIn, answered-read, answered-ended, entry-any, entry-unread}
 use Rattle.position.specs.declared.PositionSyntax.{PositionSyntax}
-use Rattle.position.specs.Entry.{positionReading}
+use Rattle.position_alone.specs.Entry.{positionReading}
 use Rattle.validation.specs.Validation.{validationReading}
 use Rattle.scene.specs.declared.TakenShapes.{TakenShapes}
 use Rattle.update.specs.Update.{graphUpdate, shapesQuestion, updateReading, UpdateGiven}

@@ -7,7 +7,7 @@ ghost use mathlib.Core.Path.{_≡_};
 ghost use Prim.Native.Nat.{_≤_};
 ghost use lib.ListN.{length, getD, take};
 ghost use Rattle.rules.specs.Answer.{inputOf, answerOf, Answered};
-ghost use Rattle.position.specs.Entry.{positionReading};
+ghost use Rattle.position_alone.specs.Entry.{positionReading};
 ghost use Rattle.validation.specs.Validation.{validationReading};
 ghost use Rattle.update.specs.Update.{shapesQuestion, updateReading};
 
@@ -86,7 +86,7 @@ fn write_back(shapes: &mut [PositionSyntax], array: [PositionSyntax; 63])
     }
 }
 
-// `position::read_position`, of a lent shape.
+// `position_alone::read_position`, of a lent shape.
 pub fn read_position(
     bytes: &[u8],
     offset: usize,
@@ -98,7 +98,7 @@ pub fn read_position(
     ensures { λ r. ⌜ Answered (positionReading (inputOf (now (bytes .entry)) recording (now (words .entry))) offset (now (shape .entry)) full) (now (shape .entry)) recording (now (words .entry)) r (now (shape .exit)) (now (words .exit)) ⌝ }
 {
     let before = shape_of(&*shape);
-    let a = position::read_position(bytes, offset, recording, &mut words[..], before, full);
+    let a = position_alone::read_position(bytes, offset, recording, &mut words[..], before, full);
     let answer = a.answer;
     let outcome = answer.outcome;
     if outcome.is_read() {

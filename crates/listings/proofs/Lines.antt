@@ -14,7 +14,9 @@ use Rattle.laws.specs.Named.{AllNamed}
 use Rattle.laws.proofs.Front.{entry-fits}
 use Rattle.known_names.specs.Known.{Known, AllKnown}
 use Rattle.known_names.proofs.Back.{stands}
-use Rattle.listing.specs.Listing.{fieldLine, fieldLines, lineAt, listing, outcomeLine}
+use Rattle.field_lines.specs.FieldLine.{fieldLine, lineAt}
+use Rattle.outcome_lines.specs.OutcomeLine.{outcomeLine}
+use Rattle.listing.specs.Listing.{fieldLines, listing}
 use Rattle.listings.specs.Printed.{lines, printed}
 
 module _ (ws vs : List ℕ) where

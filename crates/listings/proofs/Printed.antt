@@ -27,8 +27,8 @@ use Rattle.laws.proofs.Free.{enough}
 use Rattle.laws.proofs.Front.{entry-fits}
 use Rattle.book.specs.Book.{Packet, isAccepted, bookScene, bookReading, sceneStep}
 use Rattle.book.proofs.Book.{scene-is, update-is}
-use Rattle.show.specs.Header.{partCount, partOf, isSound, fileQuestion}
-use Rattle.show.specs.Show.{packet}
+use Rattle.show_header.specs.Header.{partCount, partOf, isSound, fileQuestion}
+use Rattle.show_parts.specs.Parts.{packet}
 use Rattle.part.specs.declared.PartAnswer.{PartAnswer}
 use Rattle.part.specs.declared.PartAnswer.the-variants.{Ended, NoPart, NoScene}
 use Rattle.part.specs.Part.{Listed, listed, unlisted, shapesBefore, partFrom, updateListed, soundListed, partListed, PartAnswered}

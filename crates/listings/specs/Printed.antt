@@ -5,7 +5,9 @@ use Rattle.rules.specs.declared.Answer.{Answer}
 use Rattle.part.specs.declared.PartAnswer.{PartAnswer}
 use Rattle.part.specs.declared.PartAnswer.the-variants.{Ended, NoPart, NoScene}
 use Rattle.part.specs.Part.{Listed}
-use Rattle.listing.specs.Listing.{fieldLines, lineAt, outcomeLine}
+use Rattle.field_lines.specs.FieldLine.{lineAt}
+use Rattle.outcome_lines.specs.OutcomeLine.{outcomeLine}
+use Rattle.listing.specs.Listing.{fieldLines}
 
 -- the lines of n fields from field i on
 unfoldable pub lines : List ℕ → ℕ → ℕ → List ℕ

@@ -1,6 +1,2 @@
-pub mod Characters
-pub mod Lengths
 pub mod Questions
-pub mod Forms
-pub mod Distinct
-pub mod Examples
+pub mod Call

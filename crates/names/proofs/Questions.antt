@@ -8,7 +8,8 @@ use lib.ListN.{length}
 use lib.Seq.{sets}
 use Rattle.rules.specs.declared.Outcome.the-variants.{Read, Refused}
 use Rattle.text.specs.declared.TextAnswer.{TextAnswer}
-use Rattle.names.specs.NameText.{known, nameText, roomQuestion, nameQuestion, NameAnswered}
+use Rattle.name_words.specs.NameText.{known, nameText}
+use Rattle.names.specs.NameAnswer.{roomQuestion, nameQuestion, NameAnswered}
 
 module _ (w : ℕ) (bytes : List ℕ) where
   pub too-few : length bytes < length (nameText w) →

@@ -19,8 +19,8 @@ use Rattle.update.specs.Update.{UpdateAnswered}
 use Rattle.book.specs.Step.{bookState}
 use Rattle.book.specs.Book.{isAccepted, bookScene, bookReading, sceneStep, bookShapes}
 use Rattle.book.proofs.Book.{scene-answer, scene-declares, update-left}
-use Rattle.show.specs.Header.{partCount, fileQuestion}
-use Rattle.show.specs.Show.{packet, packets}
+use Rattle.show_header.specs.Header.{partCount, fileQuestion}
+use Rattle.show_parts.specs.Parts.{packet, packets}
 use Rattle.part.specs.declared.PartAnswer.{PartAnswer}
 use Rattle.part.specs.declared.PartAnswer.the-variants.{Ended, NoPart, NoScene}
 use Rattle.part.specs.Part.{listed, unlisted, shapesBefore, partFrom, updateListed, soundListed, partListed, PartAnswered}

@@ -10,9 +10,9 @@ use Rattle.position.specs.declared.PositionSyntax.{PositionSyntax}
 use Rattle.book.specs.Step.{bookTold, bookState}
 use Rattle.book.specs.Book.{Given, isAccepted, bookScene, bookReading, sceneStep, updateStep, bookFirst, bookAnswers, bookShapes}
 use Rattle.book.proofs.Book.{scene-told, update-told, scene-enough, update-enough}
-use Rattle.show.specs.Header.{partCount, partOf, fileQuestion}
-use Rattle.show.specs.Show.{packet, packets}
-use Rattle.show.proofs.Sound.{sound-if, question-met}
+use Rattle.show_header.specs.Header.{partCount, partOf, fileQuestion}
+use Rattle.show_parts.specs.Parts.{packet, packets}
+use Rattle.show_header.proofs.Sound.{sound-if, question-met}
 use Rattle.part.specs.declared.PartAnswer.the-variants.{Ended}
 use Rattle.part.specs.Part.{Listed, shapesBefore, partFrom, updateListed, soundListed, partListed}
 

@@ -11,8 +11,8 @@ use Rattle.rules.specs.Words.{recorded}
 use Rattle.rules.specs.Answer.{answerOf}
 use Rattle.position.specs.declared.PositionSyntax.{PositionSyntax}
 use Rattle.book.specs.Book.{Packet, packetOf, isAccepted, bookScene, bookReading, sceneStep, bookFirst, bookShapes}
-use Rattle.show.specs.Header.{partCount, partOf, fileQuestion}
-use Rattle.show.specs.Show.{packet, packets}
+use Rattle.show_header.specs.Header.{partCount, partOf, fileQuestion}
+use Rattle.show_parts.specs.Parts.{packet, packets}
 use Rattle.part.specs.declared.PartAnswer.{PartAnswer}
 use Rattle.part.specs.declared.PartAnswer.the-variants.{Ended, NoPart, NoScene}
 

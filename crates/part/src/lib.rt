@@ -6,8 +6,8 @@ ghost use mathlib.Core.Path.{_≡_};
 ghost use Prim.Native.Nat.{_-_, _≤_, _<_};
 ghost use lib.ListN.{take};
 ghost use Rattle.book.specs.Book.{bookShapes};
-ghost use Rattle.show.specs.Header.{HeaderSound, partCount};
-ghost use Rattle.show.specs.Show.{packets};
+ghost use Rattle.show_header.specs.Header.{HeaderSound, partCount};
+ghost use Rattle.show_parts.specs.Parts.{packets};
 ghost use Rattle.part.specs.Part.{partFrom, updateListed, soundListed, partListed, PartAnswered};
 
 // What came of reading a part: how it ended, or why it is not read.
@@ -33,7 +33,7 @@ fn shapes_before(
     let mut i = 1;
     while i < k {
         let mut words = [0u64; 0];
-        let a = show::update_part(file, i, 0, false, &mut words, next, count);
+        let a = show_parts::update_part(file, i, 0, false, &mut words, next, count);
         let left = a.shapes;
         next = left;
         i += 1;
@@ -48,14 +48,14 @@ fn read_update(file: &[u8], k: usize, offset: usize, words: &mut [u64]) -> PartA
     ensures { λ r. ⌜ PartAnswered (updateListed (now (file .entry)) k (partFrom (now (file .entry)) k offset (now (words .entry)))) (now (words .entry)) r (now (words .exit)) ⌝ }
 {
     let mut none = [0u64; 0];
-    let scene = show::scene_part(file, 0, false, &mut none);
+    let scene = show_parts::scene_part(file, 0, false, &mut none);
     let count = scene.count;
     let first = scene.shapes;
     let answer = scene.answer;
     let outcome = answer.outcome;
     if outcome.is_read() {
         let shapes = shapes_before(file, k, first, count);
-        let a = show::update_part(file, k, offset, true, words, shapes, count);
+        let a = show_parts::update_part(file, k, offset, true, words, shapes, count);
         let ended = a.answer;
         return PartAnswer::Ended(ended);
     }
@@ -67,11 +67,11 @@ fn read_sound(file: &[u8], k: usize, offset: usize, words: &mut [u64]) -> PartAn
     requires { ⌜ HeaderSound (now file) ⌝ }
     ensures { λ r. ⌜ PartAnswered (soundListed (now (file .entry)) k (partFrom (now (file .entry)) k offset (now (words .entry)))) (now (words .entry)) r (now (words .exit)) ⌝ }
 {
-    if show::header::part_count(file) <= k {
+    if show_header::part_count(file) <= k {
         return PartAnswer::NoPart;
     }
     if k == 0 {
-        let a = show::scene_part(file, offset, true, words);
+        let a = show_parts::scene_part(file, offset, true, words);
         let answer = a.answer;
         return PartAnswer::Ended(answer);
     }
@@ -82,7 +82,7 @@ fn read_sound(file: &[u8], k: usize, offset: usize, words: &mut [u64]) -> PartAn
 pub fn read_part(file: &[u8], k: usize, offset: usize, words: &mut [u64]) -> PartAnswer
     ensures { λ r. ⌜ PartAnswered (partListed (now (file .entry)) k (partFrom (now (file .entry)) k offset (now (words .entry)))) (now (words .entry)) r (now (words .exit)) ⌝ }
 {
-    let number = show::header::file_question(file);
+    let number = show_header::file_question(file);
     if number == 0 {
         return read_sound(file, k, offset, words);
     }

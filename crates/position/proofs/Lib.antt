@@ -1,3 +1,1 @@
-pub mod Loops
-pub mod Narrow
-pub mod Entries
+pub mod Formed

@@ -1,4 +1,3 @@
 pub mod Shape
 pub mod Position
 pub mod Formed
-pub mod Entry

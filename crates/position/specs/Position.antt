@@ -1,15 +1,15 @@
 -- `position`: the field rules of one position, full or of an update, whose names begin with the word `p`.
-use Prim.Native.Nat.{ℕ, zero, suc, _+_, _-_, _*_, min}
-use mathlib.Core.List.{List, [], _∷_, map}
-use mathlib.Core.Bool.{Bool, true, false, _&&_}
-use lib.Dec.{eqb}
-use lib.ListN.{take as takeN}
+use Prim.Native.Nat.{ℕ, _+_, _*_, min}
+use mathlib.Core.List.{[], _∷_}
+use mathlib.Core.Bool.{Bool, true, false}
 use Rattle.rules.specs.Name.{third}
 use Rattle.rules.specs.Leaf as leaf
 use Rattle.rules.specs.Rule.{Rule, done, _>>=_, _>>_, pick}
-use Rattle.rules.specs.Derived.{take, flag, passiveBits, passiveValues, invalid}
+use Rattle.rules.specs.Derived.{take, flag, passiveValues}
 use Rattle.position.specs.declared.PositionSyntax.{PositionSyntax}
 use Rattle.position.specs.Shape.{withDynamics, withPrecisions, withParent, withPolar}
+use Rattle.extensions.specs.Extensions.{extensionsIfPresent}
+use Rattle.coordinates.specs.Coordinates.{widthsOf, coordinateValues}
 
 -- a precision: twice its field, at most 24
 abbrev pub precisionOf : ℕ → ℕ
@@ -68,25 +68,6 @@ range p dynamic full = do
 unfoldable pub flagUnless : ℕ → Bool → Bool → Rule Bool
 flagUnless name known value = pick known (done value) (flag name)
 
--- `base + precision - if delta { 4 } else { 0 }`
-abbrev pub widthOf : ℕ → ℕ → Bool → ℕ
-widthOf base precision delta = base + precision - pick delta 4 0
-
--- `if shape.polar { [7, 6, 5] } else { [6; 3] }`
-abbrev pub bases : Bool → List ℕ
-bases polar = pick polar (7 ∷ 6 ∷ 5 ∷ []) (6 ∷ 6 ∷ 6 ∷ [])
-
--- how many of them are read: not the third polar one of a delta at precision 0
-abbrev pub howMany : Bool → ℕ → Bool → ℕ
-howMany polar precision delta = pick (delta && (polar && eqb precision 0)) 2 3
-
-abbrev pub widthsOf : List ℕ → ℕ → Bool → List ℕ
-widthsOf bases precision delta = map (λ base. widthOf base precision delta) bases
-
-unfoldable pub coordinateValues : ℕ → Bool → ℕ → Bool → Rule (Unit {0})
-coordinateValues p polar precision delta =
-    passiveValues (p + leaf.positionEncoded) third (takeN (howMany polar precision delta) (widthsOf (bases polar) precision delta))
-
 -- `if self.flag(position_present)? { .. }`
 unfoldable pub coordinates : ℕ → PositionSyntax → Bool → Rule PositionSyntax
 coordinates p sh full = do
@@ -112,35 +93,6 @@ rotation p precision full = do
         delta ← flagUnless (p + leaf.rotationDelta) full false
         rotationValues p precision delta)
       (done tt)
-
--- what follows the type of an extension, whose names begin with `q`
-unfoldable pub extensionBody : ℕ → Rule (Unit {0})
-extensionBody q = do
-  w ← take (q + leaf.lengthWidthMinusFour) 4
-  n ← take (q + leaf.bitsMinusOne) (w + 4)
-  passiveBits (q + leaf.extensionPayload) (n + 1)
-
--- one extension, and whether more may follow: type 0 is the last
-unfoldable pub extension : ℕ → Rule Bool
-extension q = do
-  type ← take (q + leaf.extensionType) 4
-  pick (eqb type 0)
-      (done false)
-      (do
-        extensionBody q
-        done true)
-
--- at most `k` extensions, the last of type 0: without it 7, and no type is read after the last
-unfoldable pub extensions : ℕ → ℕ → Rule (Unit {0})
-extensions zero q = invalid 7
-extensions (suc k) q = do
-  more ← extension q
-  pick more (extensions k (q + third)) (done tt)
-
-unfoldable pub extensionsIfPresent : ℕ → Rule (Unit {0})
-extensionsIfPresent p = do
-  there ← flag (p + leaf.extensionsPresent)
-  pick there (extensions 32 p) (done tt)
 
 -- the shape as far as the range, and what follows it
 unfoldable pub beforeRange : ℕ → PositionSyntax → Bool → Rule PositionSyntax

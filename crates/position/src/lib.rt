@@ -1,22 +1,14 @@
 // The passive syntax of one scene position: passive.rs, `position`. Coordinates stay encoded.
 use fields::Flagged;
-use rules::Answer;
 use rules::Field;
 use rules::State;
-use rules::block;
 use rules::leaf;
 ghost use mathlib.Core.Path.{_≡_};
 ghost use Prim.Native.Nat.{_≤_, _<_, _^_};
-ghost use lib.ListN.{length};
-ghost use Rattle.rules.specs.Block.{positions};
-ghost use Rattle.rules.specs.Rule.{pick};
-ghost use Rattle.rules.specs.Reading.{isRead};
-ghost use Rattle.rules.specs.Answer.{inputOf, entryThen, Answered};
 ghost use Rattle.rules.specs.Met.{Met, Sound};
 ghost use Rattle.position.specs.Shape.{default, withDynamics, withPrecisions, withParent, withPolar};
-ghost use Rattle.position.specs.Position.{precisionOf, dynamics, precisions, header, changed, newParent, parent, range, flagUnless, widthOf, bases, howMany, widthsOf, coordinateValues, coordinates, coordinatesIfPresent, rotationValues, rotation, extensionBody, extension, extensions, extensionsIfPresent, beforeRange, afterRange, position};
-ghost use Rattle.position.specs.Entry.{isShaped, shapeQuestion, positionReading};
-ghost use Rattle.position.specs.Formed.{Shaped, Formed, Remade};
+ghost use Rattle.position.specs.Position.{precisionOf, dynamics, precisions, header, changed, newParent, parent, range, flagUnless, coordinates, coordinatesIfPresent, rotationValues, rotation, beforeRange, afterRange, position};
+ghost use Rattle.position.specs.Formed.{Shaped, isShaped, Formed, Remade};
 
 // The encoding shape of one scene position, which crosses to C as it is.
 #[repr(C)]
@@ -32,12 +24,6 @@ pub struct PositionSyntax {
 // A shape that was read, and the reading after it.
 pub struct TakenShape {
     pub state: State,
-    pub shape: PositionSyntax,
-}
-
-// What a position reading called alone answers: the shape is as it came unless it was read.
-pub struct PositionAnswer {
-    pub answer: Answer,
     pub shape: PositionSyntax,
 }
 
@@ -317,74 +303,6 @@ fn flag_unless(
     fields::flag(bytes, words, s, name)
 }
 
-// A width: four bits narrower in a delta.
-fn width(base: usize, precision: usize, delta: bool) -> usize
-    requires { ⌜ (4 ≤ base) × (base ≤ 8) ⌝ }
-    requires { ⌜ precision ≤ 24 ⌝ }
-    ensures { λ r. ⌜ r ≡ widthOf base precision delta ⌝ }
-{
-    if delta {
-        return base + precision - 4;
-    }
-    base + precision
-}
-
-// The widths of three coordinates.
-fn widths(polar: bool, precision: usize, delta: bool) -> [usize; 3]
-    requires { ⌜ precision ≤ 24 ⌝ }
-    ensures { λ r. ⌜ r ≡ widthsOf (bases polar) precision delta ⌝ }
-{
-    if polar {
-        let a = width(7, precision, delta);
-        let b = width(6, precision, delta);
-        let c = width(5, precision, delta);
-        return [a, b, c];
-    }
-    let a = width(6, precision, delta);
-    [a; 3]
-}
-
-// How many of them are read.
-fn how_many(polar: bool, precision: usize, delta: bool) -> usize
-    ensures { λ r. ⌜ r ≡ howMany polar precision delta ⌝ }
-{
-    if delta {
-        if polar {
-            if precision == 0 {
-                return 2;
-            }
-        }
-    }
-    3
-}
-
-// The coordinates.
-fn coordinate_values(
-    bytes: &[u8],
-    words: &mut [u64],
-    s: State,
-    p: u64,
-    polar: bool,
-    precision: usize,
-    delta: bool,
-) -> State
-    requires { ⌜ Sound s ⌝ }
-    requires { ⌜ precision ≤ 24 ⌝ }
-    requires { ⌜ p < 2 ^ 38 ⌝ }
-    ensures { λ r. ⌜ Met (coordinateValues p polar precision delta) (now (bytes .entry)) (now (words .entry)) s tt r (now (words .exit)) ⌝ }
-{
-    let all = widths(polar, precision, delta);
-    let n = how_many(polar, precision, delta);
-    fields::passive_values(
-        bytes,
-        words,
-        s,
-        p + leaf::POSITION_ENCODED,
-        Field::THIRD,
-        &all[..n],
-    )
-}
-
 // Where a position is present: whether it is a delta, whether it is polar, which a delta keeps, and its coordinates.
 fn coordinates(
     bytes: &[u8],
@@ -404,7 +322,7 @@ fn coordinates(
     let q = flag_unless(bytes, words, s1, p + leaf::POLAR, d.value, shape.polar);
     let s2 = q.state;
     let to = shape.with_polar(q.value);
-    let s3 = coordinate_values(
+    let s3 = coordinates::coordinate_values(
         bytes,
         words,
         s2,
@@ -455,7 +373,7 @@ fn rotation_values(
     requires { ⌜ p < 2 ^ 38 ⌝ }
     ensures { λ r. ⌜ Met (rotationValues p precision delta) (now (bytes .entry)) (now (words .entry)) s tt r (now (words .exit)) ⌝ }
 {
-    let a = width(8, precision, delta);
+    let a = coordinates::width(8, precision, delta);
     let all = [a; 4];
     fields::passive_values(
         bytes,
@@ -487,79 +405,6 @@ fn rotation(
         let d = flag_unless(bytes, words, s1, p + leaf::ROTATION_DELTA, full, false);
         let s2 = d.state;
         return rotation_values(bytes, words, s2, p, precision, d.value);
-    }
-    s1
-}
-
-// What follows the type of an extension: a payload, passed over.
-fn extension_body(bytes: &[u8], words: &mut [u64], s: State, q: u64) -> State
-    requires { ⌜ Sound s ⌝ }
-    requires { ⌜ q < 2 ^ 44 ⌝ }
-    ensures { λ r. ⌜ Met (extensionBody q) (now (bytes .entry)) (now (words .entry)) s tt r (now (words .exit)) ⌝ }
-{
-    let w = fields::take(bytes, words, s, q + leaf::LENGTH_WIDTH_MINUS_FOUR, 4);
-    let s1 = w.state;
-    let n = fields::take(
-        bytes,
-        words,
-        s1,
-        q + leaf::BITS_MINUS_ONE,
-        w.value as usize + 4,
-    );
-    let s2 = n.state;
-    fields::passive_bits(words, s2, q + leaf::EXTENSION_PAYLOAD, n.value as usize + 1)
-}
-
-// One extension, and whether more may follow: type 0 is the last.
-fn extension(bytes: &[u8], words: &mut [u64], s: State, q: u64) -> Flagged
-    requires { ⌜ Sound s ⌝ }
-    requires { ⌜ q < 2 ^ 44 ⌝ }
-    ensures { λ r. ⌜ Met (extension q) (now (bytes .entry)) (now (words .entry)) s (r .value) (r .state) (now (words .exit)) ⌝ }
-{
-    let a = fields::take(bytes, words, s, q + leaf::EXTENSION_TYPE, 4);
-    let s1 = a.state;
-    if a.value == 0 {
-        return Flagged {
-            state: s1,
-            value: false,
-        };
-    }
-    let s2 = extension_body(bytes, words, s1, q);
-    Flagged {
-        state: s2,
-        value: true,
-    }
-}
-
-// At most 32 extensions, the last of type 0. After the thirty-second no type is read: 7.
-fn extensions(bytes: &[u8], words: &mut [u64], s: State, p: u64) -> State
-    requires { ⌜ Sound s ⌝ }
-    requires { ⌜ p < 2 ^ 38 ⌝ }
-    ensures { λ r. ⌜ Met (extensions 32 p) (now (bytes .entry)) (now (words .entry)) s tt r (now (words .exit)) ⌝ }
-{
-    let mut t = s;
-    let mut i: u64 = 0;
-    while i < 32 {
-        let e = extension(bytes, words, t, p + Field::THIRD * i);
-        t = e.state;
-        if !e.value {
-            return t;
-        }
-        i += 1;
-    }
-    fields::invalid(t, 7)
-}
-
-// The extensions, if there are any.
-fn extensions_if_present(bytes: &[u8], words: &mut [u64], s: State, p: u64) -> State
-    requires { ⌜ Sound s ⌝ }
-    requires { ⌜ p < 2 ^ 38 ⌝ }
-    ensures { λ r. ⌜ Met (extensionsIfPresent p) (now (bytes .entry)) (now (words .entry)) s tt r (now (words .exit)) ⌝ }
-{
-    let a = fields::flag(bytes, words, s, p + leaf::EXTENSIONS_PRESENT);
-    let s1 = a.state;
-    if a.value {
-        return extensions(bytes, words, s1, p);
     }
     s1
 }
@@ -602,7 +447,7 @@ fn after_range(
     let s1 = a.state;
     let to = a.shape;
     let s2 = rotation(bytes, words, s1, p, to.rotation_precision, full);
-    let s3 = extensions_if_present(bytes, words, s2, p);
+    let s3 = extensions::extensions_if_present(bytes, words, s2, p);
     TakenShape {
         state: s3,
         shape: to,
@@ -628,57 +473,4 @@ pub fn position(
     let to = a.shape;
     let s2 = range(bytes, words, s1, p, to.range_dynamic, full);
     after_range(bytes, words, s2, p, to, full)
-}
-
-// The questions of an entry, and a position with the names of the first one of a scene.
-fn entered(
-    bytes: &[u8],
-    words: &mut [u64],
-    s: State,
-    offset: usize,
-    shape: PositionSyntax,
-    full: bool,
-) -> TakenShape
-    requires { ⌜ Sound s ⌝ }
-    ensures { λ r. ⌜ Met (entryThen (length (now (bytes .entry))) (shapeQuestion shape) offset (position (positions 0) shape full)) (now (bytes .entry)) (now (words .entry)) s (r .shape) (r .state) (now (words .exit)) ⌝ }
-{
-    if shape.is_shaped() {
-        let t = fields::entry(bytes, s, 0, offset);
-        return position(bytes, words, t, block::POSITIONS, shape, full);
-    }
-    let t = fields::entry(bytes, s, 2, offset);
-    TakenShape { state: t, shape }
-}
-
-// The shape after a reading: as it came unless all was read.
-fn kept(t: State, before: PositionSyntax, next: PositionSyntax) -> PositionSyntax
-    ensures { λ r. ⌜ r ≡ pick (isRead (t .outcome)) next before ⌝ }
-{
-    if t.is_read() {
-        return next;
-    }
-    before
-}
-
-// A position from the bit `offset` on, full or of an update.
-pub fn read_position(
-    bytes: &[u8],
-    offset: usize,
-    recording: bool,
-    words: &mut [u64],
-    shape: PositionSyntax,
-    full: bool,
-) -> PositionAnswer
-    ensures { λ r. ⌜ Answered (positionReading (inputOf (now (bytes .entry)) recording (now (words .entry))) offset shape full) shape recording (now (words .entry)) (r .answer) (r .shape) (now (words .exit)) ⌝ }
-{
-    let s = State::fresh(recording, 0);
-    let a = entered(bytes, words, s, offset, shape, full);
-    let t = a.state;
-    let next = a.shape;
-    let after = kept(t, shape, next);
-    let answer = t.answer();
-    PositionAnswer {
-        answer,
-        shape: after,
-    }
 }

@@ -1,159 +1,13 @@
-// Radiation patterns of renderer data: passive_renderer.rs, `renderer_radiation` and `renderer_precision`. The names of each
-// begin with the word `p`, those of a band with `q`.
-use fields::Taken;
+// Radiation patterns of renderer data: passive_renderer.rs, `renderer_radiation`. The names of each begin with the word `p`.
+use reader::Taken;
 use rules::Field;
 use rules::State;
 use rules::leaf;
 ghost use Prim.Native.Nat.{_+_, _≤_, _<_, _^_};
 ghost use Rattle.rules.specs.Met.{Met, Sound};
 ghost use Rattle.fields.specs.Taken.{Took};
-ghost use Rattle.radiation.specs.Radiation.{rendererPrecision, compactOrPrecise, anglesAndGain, bandValues, band, countPlusOne, eachBand, bands, gainAndAngle, pattern, precisionWidth, patternOfPrecision, size, sizes, coefficients, resourceIndex, rendererRadiation};
-
-// A number of 8, 16 or 32 bits; one of 64 bits stops the reading before it is read.
-fn renderer_precision(bytes: &[u8], words: &mut [u64], s: State, name: u64, width: usize) -> State
-    requires { ⌜ Sound s ⌝ }
-    requires { ⌜ width ≤ 64 ⌝ }
-    ensures { λ r. ⌜ Met (rendererPrecision name width) (now (bytes .entry)) (now (words .entry)) s tt r (now (words .exit)) ⌝ }
-{
-    if width == 64 {
-        return fields::stop(s, 32);
-    }
-    common::number(bytes, words, s, name, width)
-}
-
-// A band of pattern 1: two numbers, compact or of the precision.
-fn compact_or_precise(bytes: &[u8], words: &mut [u64], s: State, q: u64, width: usize) -> State
-    requires { ⌜ Sound s ⌝ }
-    requires { ⌜ q < 2 ^ 51 ⌝ }
-    requires { ⌜ width ≤ 64 ⌝ }
-    ensures { λ r. ⌜ Met (compactOrPrecise q width) (now (bytes .entry)) (now (words .entry)) s tt r (now (words .exit)) ⌝ }
-{
-    let a = fields::flag(bytes, words, s, q + leaf::BAND_COMPACT);
-    let s1 = a.state;
-    if a.value {
-        let widths: [usize; 2] = [3, 8];
-        return fields::passive_values(
-            bytes,
-            words,
-            s1,
-            q + leaf::BAND_ENCODED,
-            Field::FOURTH,
-            &widths,
-        );
-    }
-    let s2 = renderer_precision(bytes, words, s1, q + leaf::BAND_ENCODED, width);
-    renderer_precision(
-        bytes,
-        words,
-        s2,
-        q + leaf::BAND_ENCODED + Field::FOURTH,
-        width,
-    )
-}
-
-// A band of pattern 2: two numbers of 9 bits, and a gain.
-fn angles_and_gain(bytes: &[u8], words: &mut [u64], s: State, q: u64, width: usize) -> State
-    requires { ⌜ Sound s ⌝ }
-    requires { ⌜ q < 2 ^ 51 ⌝ }
-    requires { ⌜ width ≤ 64 ⌝ }
-    ensures { λ r. ⌜ Met (anglesAndGain q width) (now (bytes .entry)) (now (words .entry)) s tt r (now (words .exit)) ⌝ }
-{
-    let widths: [usize; 2] = [9, 9];
-    let s1 = fields::passive_values(
-        bytes,
-        words,
-        s,
-        q + leaf::BAND_ENCODED,
-        Field::FOURTH,
-        &widths,
-    );
-    renderer_precision(bytes, words, s1, q + leaf::BAND_GAIN_ENCODED, width)
-}
-
-// What follows the frequency of a band.
-fn band_values(bytes: &[u8], words: &mut [u64], s: State, q: u64, kind: u64, width: usize) -> State
-    requires { ⌜ Sound s ⌝ }
-    requires { ⌜ q < 2 ^ 51 ⌝ }
-    requires { ⌜ width ≤ 64 ⌝ }
-    ensures { λ r. ⌜ Met (bandValues q kind width) (now (bytes .entry)) (now (words .entry)) s tt r (now (words .exit)) ⌝ }
-{
-    if kind == 1 {
-        return compact_or_precise(bytes, words, s, q, width);
-    }
-    angles_and_gain(bytes, words, s, q, width)
-}
-
-// One band of pattern 1 or 2.
-fn band(bytes: &[u8], words: &mut [u64], s: State, q: u64, kind: u64, width: usize) -> State
-    requires { ⌜ Sound s ⌝ }
-    requires { ⌜ q < 2 ^ 51 ⌝ }
-    requires { ⌜ width ≤ 64 ⌝ }
-    ensures { λ r. ⌜ Met (band q kind width) (now (bytes .entry)) (now (words .entry)) s tt r (now (words .exit)) ⌝ }
-{
-    let a = fields::flag(bytes, words, s, q + leaf::BAND_UNITY);
-    let s1 = a.state;
-    let b = fields::escaped(
-        bytes,
-        words,
-        s1,
-        q + leaf::BAND_FREQUENCY_MINUS_ONE,
-        [10, 13, 17],
-    );
-    let s2 = b.state;
-    if a.value {
-        return s2;
-    }
-    band_values(bytes, words, s2, q, kind, width)
-}
-
-// The count of bands or of sizes: `count_minus_one`, and question 6.
-fn count_plus_one(bytes: &[u8], words: &mut [u64], s: State, p: u64, least: u64) -> Taken
-    requires { ⌜ Sound s ⌝ }
-    requires { ⌜ p < 2 ^ 38 ⌝ }
-    requires { ⌜ least ≤ 4096 ⌝ }
-    ensures { λ r. ⌜ Took (countPlusOne p least) 4097 (now (bytes .entry)) (now (words .entry)) s (r .value) (r .state) (now (words .exit)) ⌝ }
-{
-    let n = fields::escaped(bytes, words, s, p + leaf::COUNT_MINUS_ONE, [3, 6, 9]);
-    let s1 = n.state;
-    fields::count(s1, n.value + 1, least)
-}
-
-// The loop over `n` bands.
-fn each_band(
-    bytes: &[u8],
-    words: &mut [u64],
-    s: State,
-    p: u64,
-    kind: u64,
-    width: usize,
-    n: u64,
-) -> State
-    requires { ⌜ Sound s ⌝ }
-    requires { ⌜ p < 2 ^ 38 ⌝ }
-    requires { ⌜ width ≤ 64 ⌝ }
-    requires { ⌜ n < 4097 ⌝ }
-    ensures { λ r. ⌜ Met (eachBand p kind width n) (now (bytes .entry)) (now (words .entry)) s tt r (now (words .exit)) ⌝ }
-{
-    let mut t = s;
-    let mut i: u64 = 0;
-    while i < n && t.is_read() {
-        t = band(bytes, words, t, p + Field::THIRD * i, kind, width);
-        i += 1;
-    }
-    t
-}
-
-// Patterns 1 and 2.
-fn bands(bytes: &[u8], words: &mut [u64], s: State, p: u64, kind: u64, width: usize) -> State
-    requires { ⌜ Sound s ⌝ }
-    requires { ⌜ p < 2 ^ 38 ⌝ }
-    requires { ⌜ width ≤ 64 ⌝ }
-    ensures { λ r. ⌜ Met (bands p kind width) (now (bytes .entry)) (now (words .entry)) s tt r (now (words .exit)) ⌝ }
-{
-    let n = count_plus_one(bytes, words, s, p, 11);
-    let s1 = n.state;
-    each_band(bytes, words, s1, p, kind, width, n.value)
-}
+ghost use Rattle.bands.specs.Bands.{bands};
+ghost use Rattle.radiation.specs.Radiation.{gainAndAngle, pattern, size, sizes, precisionWidth, patternOfPrecision, coefficients, resourceIndex, rendererRadiation};
 
 // Pattern 3.
 fn gain_and_angle(bytes: &[u8], words: &mut [u64], s: State, p: u64, width: usize) -> State
@@ -167,7 +21,7 @@ fn gain_and_angle(bytes: &[u8], words: &mut [u64], s: State, p: u64, width: usiz
     if a.value {
         return s1;
     }
-    let s2 = renderer_precision(bytes, words, s1, p + leaf::GAIN_ENCODED, width);
+    let s2 = bands::renderer_precision(bytes, words, s1, p + leaf::GAIN_ENCODED, width);
     common::number(bytes, words, s2, p + leaf::ANGLE_ENCODED, 9)
 }
 
@@ -180,7 +34,7 @@ fn pattern(bytes: &[u8], words: &mut [u64], s: State, p: u64, kind: u64, width: 
 {
     match kind {
         0 => s,
-        1 | 2 => bands(bytes, words, s, p, kind, width),
+        1 | 2 => bands::bands(bytes, words, s, p, kind, width),
         3 => gain_and_angle(bytes, words, s, p, width),
         _ => common::payload(bytes, words, s, p),
     }
@@ -220,7 +74,7 @@ fn size(bytes: &[u8], words: &mut [u64], s: State, p: u64, i: u64, entries: u64)
     requires { ⌜ entries < 2 ^ 40 ⌝ }
     ensures { λ r. ⌜ Took (size p i entries) (entries + 2 ^ 22 + 1) (now (bytes .entry)) (now (words .entry)) s (r .value) (r .state) (now (words .exit)) ⌝ }
 {
-    let n = fields::escaped(
+    let n = variable::escaped(
         bytes,
         words,
         s,
@@ -262,11 +116,11 @@ fn coefficients(bytes: &[u8], words: &mut [u64], s: State, p: u64) -> State
     requires { ⌜ p < 2 ^ 38 ⌝ }
     ensures { λ r. ⌜ Met (coefficients p) (now (bytes .entry)) (now (words .entry)) s tt r (now (words .exit)) ⌝ }
 {
-    let n = count_plus_one(bytes, words, s, p, 6);
+    let n = bands::count_plus_one(bytes, words, s, p, 6);
     let s1 = n.state;
     let entries = sizes(bytes, words, s1, p, n.value);
     let s2 = entries.state;
-    fields::passive_bits(
+    variable::passive_bits(
         words,
         s2,
         p + leaf::COEFFICIENT_BITS,
@@ -299,6 +153,6 @@ pub fn renderer_radiation(bytes: &[u8], words: &mut [u64], s: State, p: u64) -> 
         2 => resource_index(bytes, words, s1, p),
         3 => pattern_of_precision(bytes, words, s1, p),
         4 => coefficients(bytes, words, s1, p),
-        _ => fields::invalid(s1, 15),
+        _ => reader::invalid(s1, 15),
     }
 }

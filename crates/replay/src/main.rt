@@ -105,7 +105,7 @@ fn escaped(bytes: &[u8], words: &mut [u64], s: State, o: Operation) -> State
     if 20 < c {
         return s;
     }
-    let t = fields::escaped(bytes, words, s, o.name, [a, b, c]);
+    let t = variable::escaped(bytes, words, s, o.name, [a, b, c]);
     t.state
 }
 
@@ -126,9 +126,9 @@ fn field(bytes: &[u8], words: &mut [u64], s: State, o: Operation) -> State
         return escaped(bytes, words, s, o);
     }
     if code == 3 {
-        return fields::passive_bits(words, s, o.name, o.a);
+        return variable::passive_bits(words, s, o.name, o.a);
     }
-    fields::label(bytes, words, s, o.name)
+    variable::label(bytes, words, s, o.name)
 }
 
 // An end for a window. One past every input is as good as the least such.
@@ -164,13 +164,13 @@ fn question(bytes: &[u8], s: State, o: Operation) -> State
         return t.state;
     }
     if code == 6 {
-        return fields::set_end(bytes, s, limited(o.a));
+        return reader::set_end(bytes, s, limited(o.a));
     }
     if code == 7 {
-        return fields::invalid(s, short(o.a));
+        return reader::invalid(s, short(o.a));
     }
     if code == 8 {
-        return fields::stop(s, short(o.a));
+        return reader::stop(s, short(o.a));
     }
     s
 }
@@ -352,7 +352,7 @@ fn count(head: &[u8; 34]) -> usize {
 // Operations on one reading, from a fresh state.
 fn run_fields(head: &[u8; 34], bytes: &[u8], words: &mut [u64]) -> Ran {
     let s = State::fresh(recording(head), 0);
-    let t = fields::entry(bytes, s, 0, offset(head));
+    let t = reader::entry(bytes, s, 0, offset(head));
     let u = operations(bytes, words, t, count(head) as u64);
     let answer = u.answer();
     Ran { answer, same: true }
@@ -384,7 +384,14 @@ fn run_update(head: &[u8; 34], bytes: &[u8], words: &mut [u64]) -> Ran {
 fn run_position(head: &[u8; 34], bytes: &[u8], words: &mut [u64]) -> Ran {
     let before = next_shape();
     let full = count(head) == 1;
-    let a = position::read_position(bytes, offset(head), recording(head), words, before, full);
+    let a = position_alone::read_position(
+        bytes,
+        offset(head),
+        recording(head),
+        words,
+        before,
+        full,
+    );
     let shape = a.shape;
     let same = same_shape(shape, next_shape());
     let answer = a.answer;

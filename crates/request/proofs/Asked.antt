@@ -4,8 +4,8 @@ use mathlib.Core.Path.{_≡_}
 use mathlib.Core.List.{List}
 use mathlib.Core.Bool.{Bool, true, false, _&&_}
 use lib.Dec.{eqb, leb}
-use Rattle.text.specs.declared.number.Number.{Number}
-use Rattle.text.specs.Text.{numberIn}
+use Rattle.digits.specs.declared.Number.{Number}
+use Rattle.digits.specs.Digits.{numberIn}
 use Rattle.request.specs.declared.Request.the-variants.{Scene, Metadata, Part, Unknown}
 use Rattle.request.specs.Request.{isWord, numberOrZero, partRequest, requestOf}
 

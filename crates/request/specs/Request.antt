@@ -5,8 +5,9 @@ use mathlib.Core.List.{List}
 use mathlib.Core.Bool.{Bool, true, _&&_}
 use lib.Dec.{eqb, leb}
 use Rattle.rules.specs.Rule.{pick}
-use Rattle.text.specs.declared.number.Number.{Number}
-use Rattle.text.specs.Text.{ascii, sameText, numberIn}
+use Rattle.text.specs.Text.{ascii, sameText}
+use Rattle.digits.specs.declared.Number.{Number}
+use Rattle.digits.specs.Digits.{numberIn}
 use Rattle.request.specs.declared.Request.{Request}
 use Rattle.request.specs.declared.Request.the-variants.{Scene, Metadata, Part, Unknown}
 

@@ -1,5 +1,5 @@
 // What `scene-fields` is asked for, by its arguments.
-use text::number::Number;
+use digits::Number;
 ghost use mathlib.Core.Path.{_≡_};
 ghost use Rattle.text.specs.Text.{sameText};
 ghost use Rattle.request.specs.Request.{numberOrZero, partRequest, requestOf};
@@ -24,7 +24,7 @@ fn number_or_zero(given: bool, text: &[u8]) -> Number
     ensures { λ r. ⌜ r ≡ numberOrZero given (now (text .entry)) ⌝ }
 {
     if given {
-        return text::number::number_in(text);
+        return digits::number_in(text);
     }
     Number {
         valid: true,
@@ -36,7 +36,7 @@ fn number_or_zero(given: bool, text: &[u8]) -> Number
 fn part_request(count: usize, word: &[u8], first: &[u8], second: &[u8]) -> Request
     ensures { λ r. ⌜ r ≡ partRequest count (now (word .entry)) (now (first .entry)) (now (second .entry)) ⌝ }
 {
-    let part = text::number::number_in(first);
+    let part = digits::number_in(first);
     let bit = number_or_zero(count == 3, second);
     if same_text(word, b"part") & ((count <= 3) & (part.valid & bit.valid)) {
         return Request::Part(part.value as usize, bit.value as usize);

@@ -3,6 +3,7 @@ pub mod Words
 pub mod Bind
 pub mod Forward
 pub mod Laws
+pub mod Steps
 pub mod Left
 pub mod Each
 pub mod Fold

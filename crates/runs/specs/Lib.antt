@@ -1,6 +1,3 @@
 pub mod Sent
 pub mod Scene
 pub mod Update
-pub mod Metadata
-pub mod Show
-pub mod Line

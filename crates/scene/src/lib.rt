@@ -172,7 +172,7 @@ fn entered(bytes: &[u8], words: &mut [u64], s: State, offset: usize) -> TakenSce
     requires { ⌜ Sound s ⌝ }
     ensures { λ r. ⌜ TookScene (entryThen (length (now (bytes .entry))) 0 offset sceneGraph) (now (bytes .entry)) (now (words .entry)) s (r .count) (r .shapes) (r .state) (now (words .exit)) ⌝ }
 {
-    let t = fields::entry(bytes, s, 0, offset);
+    let t = reader::entry(bytes, s, 0, offset);
     scene_graph(bytes, words, t)
 }
 

@@ -31,14 +31,14 @@ fn report(line: &[u8]) {
 
 // Prints the line of field `i`. It gives whether that could be written.
 fn print_field(words: &[u64], i: usize) -> bool {
-    let mut line = [0u8; listing::LINE];
-    let length = listing::field_line(words, i, &mut line);
+    let mut line = [0u8; text::LINE];
+    let length = field_lines::field_line(words, i, &mut line);
     io::write_all(STDOUT_FILENO, &line[..length])
 }
 
 fn print_outcome(answer: Answer) -> bool {
-    let mut line = [0u8; listing::LINE];
-    let length = listing::outcome_line(answer, &mut line);
+    let mut line = [0u8; text::LINE];
+    let length = outcome_lines::outcome_line(answer, &mut line);
     io::write_all(STDOUT_FILENO, &line[..length])
 }
 

@@ -1,4 +1,2 @@
-pub mod Sound
-pub mod Answers
 pub mod Texts
 pub mod Room

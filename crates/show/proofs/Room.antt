@@ -6,40 +6,25 @@ use mathlib.Core.Bool.{Bool, true, false}
 use native.Mathlib.Omega.{arith}
 use borrow.Author.Tests.{eqb-true, ne-eqb}
 use lib.Dec.{eqb}
-use lib.ListN.{length, length-append, length-map}
+use lib.ListN.{length, length-append}
 use Rattle.rules.specs.declared.Answer.{Answer}
-use Rattle.rules.specs.declared.Outcome.{Outcome}
-use Rattle.rules.specs.declared.Outcome.the-variants.{Read, Refused, Stopped}
+use Rattle.rules.specs.declared.Outcome.the-variants.{Read, Refused}
 use Rattle.rules.specs.Reading.{isRead}
 use Rattle.rules.proofs.Pick.{by-pick}
 use Rattle.position.specs.declared.PositionSyntax.{PositionSyntax}
-use Rattle.validation.specs.Rank.{parents, parentOf, rankOf}
 use Rattle.book.specs.Book.{Packet, Given, sceneStep, updateStep, bookFirst, bookAnswers, bookShapes}
 use Rattle.book.proofs.Steps.{told-many}
 use Rattle.book.proofs.Book.{shapes-many, first-many}
-use Rattle.text.specs.Text.{ascii, line, Put}
-use Rattle.text.proofs.Lines.{widest, line-most}
+use Rattle.text.specs.Text.{line, Put}
 use Rattle.text.proofs.Puts.{put-long}
-use Rattle.show.specs.Header.{HeaderSound, partCount, isSound, fileQuestion}
-use Rattle.show.specs.Show.{told, partLine, partLines, positionLine, positionLines, allPositions, packet, packets, updatesText, restText, partsText, showText, ShowAnswered}
-use Rattle.show.proofs.Sound.{sound-if, question-met}
+use Rattle.show_header.specs.Header.{HeaderSound, partCount, isSound, fileQuestion}
+use Rattle.show_header.proofs.Sound.{sound-if, question-met}
+use Rattle.show_parts.specs.Parts.{packet, packets}
+use Rattle.show_lines.specs.Lines.{partLine, allPositions}
+use Rattle.show_lines.proofs.Room.{part-most, all-most, refused-most}
+use Rattle.show.specs.Show.{partLines, updatesText, restText, partsText, showText, ShowAnswered}
 
--- no line is longer than 84 bytes
-told-most : (k : ℕ) (o : Outcome) (position fields : ℕ) → length (line (("part ", k) ∷ told o position fields)) ≤ 84
-unfolding widest ascii
-told-most k Read position fields = let most = line-most (("part ", k) ∷ told Read position fields) in omega arith
-told-most k (Refused n) position fields = let most = line-most (("part ", k) ∷ told (Refused n) position fields) in omega arith
-told-most k (Stopped n) position fields = let most = line-most (("part ", k) ∷ told (Stopped n) position fields) in omega arith
-
-part-most : (k : ℕ) (a : Answer) → length (partLine k a) ≤ 84
-unfolding partLine
-part-most k a = told-most k (a .outcome) (a .position) (a .fields)
-
-position-most : (i parent rank : ℕ) → length (positionLine i parent rank) ≤ 84
-unfolding positionLine widest ascii
-position-most i parent rank = let most = line-most (("position ", i) ∷ (" parent ", parent) ∷ (" rank ", rank) ∷ []) in omega arith
-
--- the lines of parts, and of positions
+-- the lines of the parts: none of them is longer than 84 bytes
 parts-most : (k : ℕ) (gs : List Given) → length (partLines k gs) ≤ 84 * length gs
 unfolding partLines
 parts-most k [] = omega arith
@@ -47,16 +32,6 @@ parts-most k (g ∷ gs) =
     let a = length-append (partLine k (g .answer)) (partLines (k + 1) gs) in
     let b = part-most k (g .answer) in
     let c = parts-most (k + 1) gs in
-    omega arith
-
-positions-most : (ps : List ℕ) (n i : ℕ) → length (positionLines ps n i) ≤ 84 * n
-unfolding positionLines
-positions-most ps zero i = omega arith
-positions-most ps (suc n) i =
-    let here = positionLine (i + 1) (parentOf ps (i + 1)) (rankOf ps (i + 1)) in
-    let a = length-append here (positionLines ps n (i + 1)) in
-    let b = position-most (i + 1) (parentOf ps (i + 1)) (rankOf ps (i + 1)) in
-    let c = positions-most ps n (i + 1) in
     omega arith
 
 packets-many : (file : List ℕ) (n k : ℕ) → length (packets file n k) ≡ n
@@ -70,10 +45,9 @@ updates-most k ps s =
     let left = bookShapes ps s in
     let a = length-append (partLines k (bookAnswers ps s)) (allPositions left) in
     let b = parts-most k (bookAnswers ps s) in
-    let c = positions-most (parents left) (length (parents left)) 0 in
-    let d = length-map left (λ (sh : PositionSyntax). sh .parent) in
-    let e = shapes-many ps s in
-    let f = told-many updateStep ps s in
+    let c = all-most left in
+    let d = shapes-many ps s in
+    let e = told-many updateStep ps s in
     omega arith
 
 rest-most : (file : List ℕ) → isSound file ≡ true → (scene : Answer) → length (restText file scene (bookFirst (packet file 0))) ≤ 84 * 255 + 84 * 63
@@ -104,17 +78,13 @@ parts-text-most file t =
     let c = rest-most file t scene in
     omega arith
 
-refused-most : (n : ℕ) → length (line (("file refused ", n) ∷ [])) ≤ 32768
-unfolding widest ascii
-refused-most n = let most = line-most (("file refused ", n) ∷ []) in omega arith
-
 -- Whatever the file, its text fits into 32,768 bytes.
 pub show-enough : (file : List ℕ) → length (showText file) ≤ 32768
 unfolding showText
 show-enough file =
     by-pick (λ l. length l ≤ 32768) (eqb (fileQuestion file) 0) (partsText file) _
     (λ t. parts-text-most file (question-met file (eqb-true _ _ t)))
-    (λ _. refused-most (fileQuestion file))
+    (λ _. let most = refused-most (fileQuestion file) in omega arith)
 
 -- So there is room for the text of a file that is read, and of one that is refused, and what is put is the answer.
 module _ (file before : List ℕ) {n : ℕ} (e : n ≡ fileQuestion file) (long : length before ≡ 32768) where

@@ -1,32 +1,21 @@
 -- The text of a show, line by line, as the code puts it.
 use Prim.Native.Nat.{ℕ, suc, _+_, _-_, _<_, _≤_}
-use mathlib.Core.Path.{_≡_}
+use mathlib.Core.Path.{_≡_, sym, ap₂}
 use mathlib.Core.List.{List, [], _++_, append-assoc}
 use mathlib.Core.Bool.{false}
 use native.Mathlib.Omega.{arith}
-use lib.ListN.{length, getD}
+use lib.ListN.{take}
 use Rattle.rules.specs.declared.Answer.{Answer}
 use Rattle.rules.specs.Answer.{Answered}
 use Rattle.position.specs.declared.PositionSyntax.{PositionSyntax}
-use Rattle.validation.specs.Rank.{rankOf}
+use Rattle.scene.specs.declared.SceneAnswer.{SceneAnswer}
+use Rattle.scene.specs.Scene.{SceneAnswered}
 use Rattle.book.specs.Step.{bookTold, bookState}
-use Rattle.book.specs.Book.{bookReading, updateStep}
-use Rattle.book.proofs.Book.{update-answer, update-left}
-use Rattle.show.specs.Show.{partLine, partLines, positionLine, positionLines, allPositions, packet, packets, updatesText}
-
-module _ (ps : List ℕ) (i : ℕ) where
-  -- one position, and those after it
-  pub position-more : i < length ps → {rank : ℕ} → rank ≡ rankOf ps (i + 1) →
-      positionLines ps (length ps - i) i ≡ positionLine (i + 1) (getD ps i 0) rank ++ positionLines ps (length ps - (i + 1)) (i + 1)
-  unfolding positionLines
-  position-more h e =
-      let more : length ps - i ≡ suc (length ps - (i + 1)) = omega arith in
-      let back : i + 1 - 1 ≡ i = omega arith in
-      rw (more, e, back)
-
-  pub position-end : length ps ≤ i → positionLines ps (length ps - i) i ≡ []
-  unfolding positionLines
-  position-end h = let none : length ps - i ≡ 0 = omega arith in rw none
+use Rattle.book.specs.Book.{bookScene, bookReading, updateStep}
+use Rattle.book.proofs.Book.{scene-answer, scene-declares, update-answer, update-left}
+use Rattle.show_parts.specs.Parts.{packet, packets}
+use Rattle.show_lines.specs.Lines.{partLine, allPositions}
+use Rattle.show.specs.Show.{partLines, updatesText, restText, partsText}
 
 module _ (file : List ℕ) (n k : ℕ) (s : List PositionSyntax) where
   -- one update, and what follows it
@@ -40,3 +29,10 @@ module _ (file : List ℕ) (n k : ℕ) (s : List PositionSyntax) where
   pub update-end : n ≤ k → updatesText k (packets file (n - k) k) s ≡ allPositions s
   unfolding updatesText packets partLines bookTold bookState
   update-end h = let none : n - k ≡ 0 = omega arith in rw none
+
+-- the text of the parts, by what the scene answered
+pub parts-by-scene : (file : List ℕ) {r : SceneAnswer} {vs : List ℕ} → SceneAnswered (bookScene (packet file 0)) false [] r vs →
+    partsText file ≡ partLine 0 (r .answer) ++ restText file (r .answer) (take (r .count) (r .shapes))
+unfolding partsText
+parts-by-scene file y =
+    sym (ap₂ (λ (a : Answer) (s : List PositionSyntax). partLine 0 a ++ restText file a s) (scene-answer (packet file 0) y) (scene-declares (packet file 0) y))

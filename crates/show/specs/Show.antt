@@ -1,55 +1,26 @@
 -- What `scene-show` prints: a line for each part, and then one for each position.
-use Prim.Native.Nat.{ℕ, zero, suc, _+_, _-_, _≤_}
-use Prim.Native.String.{String}
+use Prim.Native.Nat.{ℕ, _+_, _-_, _≤_}
 use mathlib.Core.Path.{_≡_}
 use mathlib.Core.List.{List, [], _∷_, _++_}
-use mathlib.Core.Bool.{false}
 use lib.Dec.{eqb}
 use lib.ListN.{length}
 use Rattle.rules.specs.declared.Answer.{Answer}
 use Rattle.rules.specs.declared.Outcome.{Outcome}
-use Rattle.rules.specs.declared.Outcome.the-variants.{Read, Refused, Stopped}
+use Rattle.rules.specs.declared.Outcome.the-variants.{Read, Refused}
 use Rattle.rules.specs.Rule.{pick}
 use Rattle.rules.specs.Reading.{isRead}
 use Rattle.position.specs.declared.PositionSyntax.{PositionSyntax}
-use Rattle.validation.specs.Rank.{parents, parentOf, rankOf}
-use Rattle.book.specs.Book.{Packet, packetOf, Given, sceneStep, bookAnswers, bookShapes}
+use Rattle.book.specs.Book.{Packet, Given, sceneStep, bookAnswers, bookShapes}
 use Rattle.text.specs.declared.TextAnswer.{TextAnswer}
 use Rattle.text.specs.Text.{line, Put}
-use Rattle.show.specs.Header.{partCount, partOf, fileQuestion}
+use Rattle.show_header.specs.Header.{partCount, fileQuestion}
+use Rattle.show_parts.specs.Parts.{packet, packets}
+use Rattle.show_lines.specs.Lines.{partLine, allPositions}
 
--- what is told of a part: how it ended
-abbrev pub told : Outcome → ℕ → ℕ → List (String × ℕ)
-told Read position fields = (" read ", position) ∷ (" fields ", fields) ∷ []
-told (Refused n) position fields = (" refused ", n) ∷ (" at ", position) ∷ []
-told (Stopped n) position fields = (" stopped ", n) ∷ (" at ", position) ∷ []
-
-unfoldable pub partLine : ℕ → Answer → List ℕ
-partLine k a = line (("part ", k) ∷ told (a .outcome) (a .position) (a .fields))
-
--- the lines of the parts from k on, and of the n positions after i
+-- the lines of the parts from k on
 unfoldable pub partLines : ℕ → List Given → List ℕ
 partLines k [] = []
 partLines k (g ∷ gs) = partLine k (g .answer) ++ partLines (k + 1) gs
-
-unfoldable pub positionLine : ℕ → ℕ → ℕ → List ℕ
-positionLine i parent rank = line (("position ", i) ∷ (" parent ", parent) ∷ (" rank ", rank) ∷ [])
-
-unfoldable pub positionLines : List ℕ → ℕ → ℕ → List ℕ
-positionLines ps zero i = []
-positionLines ps (suc n) i = positionLine (i + 1) (parentOf ps (i + 1)) (rankOf ps (i + 1)) ++ positionLines ps n (i + 1)
-
-abbrev pub allPositions : List PositionSyntax → List ℕ
-allPositions shapes = positionLines (parents shapes) (length (parents shapes)) 0
-
--- A part as the book is fed it: from bit 0, recording off, no words lent.
-abbrev pub packet : List ℕ → ℕ → Packet
-packet file k = packetOf (partOf file k) 0 false []
-
--- the n parts from k on
-unfoldable pub packets : List ℕ → ℕ → ℕ → List Packet
-packets file zero k = []
-packets file (suc n) k = packet file k ∷ packets file n (k + 1)
 
 -- packets on the shapes s, the first of them being part k: their lines, and those of the positions after them
 unfoldable pub updatesText : ℕ → List Packet → List PositionSyntax → List ℕ

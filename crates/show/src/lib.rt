@@ -1,80 +1,17 @@
 // A show file, and the text that `scene-show` prints of it.
-pub mod header;
-mod lines;
-
 use position::PositionSyntax;
 use rules::Outcome;
 use scene::SceneAnswer;
 use text::TextAnswer;
-use update::UpdateAnswer;
-ghost use Prim.Native.Nat.{_+_, _-_, _≤_, _<_};
+ghost use Prim.Native.Nat.{_+_, _-_, _≤_};
 ghost use lib.ListN.{length, take};
-ghost use Rattle.scene.specs.Scene.{SceneAnswered};
-ghost use Rattle.update.specs.Update.{UpdateAnswered};
-ghost use Rattle.book.specs.Book.{packetOf, bookScene, bookReading};
 ghost use Rattle.text.specs.Text.{Put};
-ghost use Rattle.show.specs.Header.{HeaderSound, partCount, partOf};
-ghost use Rattle.show.specs.Show.{positionLines, allPositions, packets, updatesText, restText, partsText, ShowAnswered};
+ghost use Rattle.show_header.specs.Header.{HeaderSound, partCount};
+ghost use Rattle.show_parts.specs.Parts.{packets};
+ghost use Rattle.show.specs.Show.{updatesText, restText, partsText, ShowAnswered};
 
 // The bytes that are lent for the text: enough for every file.
 pub const TEXT: usize = 32768;
-
-// Part 0, a scene, from its bit `offset` on.
-pub fn scene_part(file: &[u8], offset: usize, recording: bool, words: &mut [u64]) -> SceneAnswer
-    requires { ⌜ HeaderSound (now file) ⌝ }
-    ensures { λ r. ⌜ SceneAnswered (bookScene (packetOf (partOf (now (file .entry)) 0) offset recording (now (words .entry)))) recording (now (words .entry)) r (now (words .exit)) ⌝ }
-{
-    let start = header::offset_of(file, 0);
-    let end = header::end_of(file, 0);
-    scene::read_scene(&file[start..end], offset, recording, words)
-}
-
-// Part `k`, an update, from its bit `offset` on.
-pub fn update_part(
-    file: &[u8],
-    k: usize,
-    offset: usize,
-    recording: bool,
-    words: &mut [u64],
-    shapes: [PositionSyntax; 63],
-    count: usize,
-) -> UpdateAnswer
-    requires { ⌜ HeaderSound (now file) ⌝ }
-    requires { ⌜ k < partCount (now file) ⌝ }
-    requires { ⌜ count ≤ 63 ⌝ }
-    ensures { λ r. ⌜ UpdateAnswered (bookReading (packetOf (partOf (now (file .entry)) k) offset recording (now (words .entry))) (take count shapes)) count shapes recording (now (words .entry)) r (now (words .exit)) ⌝ }
-{
-    let start = header::offset_of(file, k);
-    let end = header::end_of(file, k);
-    update::graph_update(&file[start..end], offset, recording, words, shapes, count)
-}
-
-// Puts a line for each position.
-fn put_positions(out: &mut [u8], at: usize, parents: &[usize]) -> usize
-    requires { ⌜ at + length (positionLines (now parents) (length (now parents)) 0) ≤ length (now out) ⌝ }
-    ensures { λ r. ⌜ Put (now (out .entry)) at (positionLines (now (parents .entry)) (length (now (parents .entry))) 0) r (now (out .exit)) ⌝ }
-{
-    let mut to = at;
-    let mut i = 0;
-    while i < parents.len() {
-        let parent = parents[i];
-        let position = i + 1;
-        let rank = validation::rank(parents, position);
-        to = lines::put_position(out, to, position, parent, rank);
-        i = position;
-    }
-    to
-}
-
-// The same of the first `count` shapes.
-fn put_shapes(out: &mut [u8], at: usize, shapes: [PositionSyntax; 63], count: usize) -> usize
-    requires { ⌜ count ≤ 63 ⌝ }
-    requires { ⌜ at + length (allPositions (take count shapes)) ≤ length (now out) ⌝ }
-    ensures { λ r. ⌜ Put (now (out .entry)) at (allPositions (take count shapes)) r (now (out .exit)) ⌝ }
-{
-    let all = validation::parents_of(shapes);
-    put_positions(out, at, &all[..count])
-}
 
 // Puts a line for each update, every one of which finds the shapes that the one before left, and then the positions.
 fn put_updates(
@@ -89,20 +26,20 @@ fn put_updates(
     requires { ⌜ at + length (updatesText 1 (packets (now file) (partCount (now file) - 1) 1) (take count shapes)) ≤ length (now out) ⌝ }
     ensures { λ r. ⌜ Put (now (out .entry)) at (updatesText 1 (packets (now (file .entry)) (partCount (now (file .entry)) - 1) 1) (take count shapes)) r (now (out .exit)) ⌝ }
 {
-    let parts = header::part_count(file);
+    let parts = show_header::part_count(file);
     let mut next = shapes;
     let mut to = at;
     let mut k = 1;
     while k < parts {
         let mut words = [0u64; 0];
-        let a = update_part(file, k, 0, false, &mut words, next, count);
+        let a = show_parts::update_part(file, k, 0, false, &mut words, next, count);
         let answer = a.answer;
         let left = a.shapes;
-        to = lines::put_part(out, to, k, answer);
+        to = show_lines::put_part(out, to, k, answer);
         next = left;
         k += 1;
     }
-    put_shapes(out, to, next, count)
+    show_lines::put_shapes(out, to, next, count)
 }
 
 // Puts what follows the line of part 0: nothing unless the scene was read.
@@ -131,9 +68,9 @@ fn put_parts(file: &[u8], out: &mut [u8]) -> usize
     ensures { λ r. ⌜ Put (now (out .entry)) 0 (partsText (now (file .entry))) r (now (out .exit)) ⌝ }
 {
     let mut words = [0u64; 0];
-    let a = scene_part(file, 0, false, &mut words);
+    let a = show_parts::scene_part(file, 0, false, &mut words);
     let answer = a.answer;
-    let next = lines::put_part(out, 0, 0, answer);
+    let next = show_lines::put_part(out, 0, 0, answer);
     put_rest(file, out, next, a)
 }
 
@@ -141,7 +78,7 @@ fn put_parts(file: &[u8], out: &mut [u8]) -> usize
 pub fn show(file: &[u8], text: &mut [u8; TEXT]) -> TextAnswer
     ensures { λ r. ⌜ ShowAnswered (now (file .entry)) (now (text .entry)) r (now (text .exit)) ⌝ }
 {
-    let number = header::file_question(file);
+    let number = show_header::file_question(file);
     if number == 0 {
         let length = put_parts(file, text);
         let outcome = Outcome::Read;
@@ -151,7 +88,7 @@ pub fn show(file: &[u8], text: &mut [u8; TEXT]) -> TextAnswer
             length,
         };
     }
-    let length = lines::put_refused(text, 0, number);
+    let length = show_lines::put_refused(text, 0, number);
     let outcome = Outcome::Refused(number);
     TextAnswer {
         outcome,

@@ -2,4 +2,3 @@ pub mod Decimal
 pub mod Puts
 pub mod Rows
 pub mod Lines
-pub mod Digits

@@ -1,11 +1,11 @@
 -- Texts put one after the other.
-use Prim.Native.Nat.{ℕ, _+_, _≤_}
+use Prim.Native.Nat.{ℕ, suc, _+_, _≤_}
 use mathlib.Core.Path.{_≡_, refl, sym, ap, _∙_}
 use mathlib.Core.List.{List, [], _∷_, _++_}
 use native.Mathlib.Omega.{arith}
 use native.Mathlib.Nat.{add-zero}
 use lib.ListN.{length, length-append, set, take, drop}
-use lib.Seq.{sets, sets-eq, length-sets, take-at}
+use lib.Seq.{take-set-le, drop-set-lt, sets, sets-eq, length-sets, take-at}
 use Rattle.rules.proofs.Words.{sets-append}
 use Rattle.text.specs.Text.{Put}
 
@@ -32,6 +32,21 @@ pub put-front : {before text : List ℕ} {to : ℕ} {after : List ℕ} → Put b
 put-front {before} {text} p h =
     let e : 0 + length text ≡ length text = omega arith in
     rw (p .bytes, p .place, e, sets-eq text before 0 (omega arith)) (take-at text (drop (0 + length text) before) (length text) refl)
+
+-- and the bytes before a text and after it are as they were
+sets-before : (l : List ℕ) (i : ℕ) (vs : List ℕ) (n : ℕ) → n ≤ i → take n (sets l i vs) ≡ take n l
+sets-before l i [] n h = refl
+sets-before l i (v ∷ vs) n h = sets-before (set l i v) (suc i) vs n (omega arith) ∙ take-set-le n l i v h
+
+sets-after : (l : List ℕ) (i : ℕ) (vs : List ℕ) (n : ℕ) → i + length vs ≤ n → drop n (sets l i vs) ≡ drop n l
+sets-after l i [] n h = refl
+sets-after l i (v ∷ vs) n h = sets-after (set l i v) (suc i) vs n (omega arith) ∙ drop-set-lt n l i v (omega arith)
+
+pub put-before : {before : List ℕ} {at : ℕ} {text : List ℕ} {to : ℕ} {after : List ℕ} → Put before at text to after → take at after ≡ take at before
+put-before {before} {at} {text} p = ap (take at) (p .bytes) ∙ sets-before before at text at (omega arith)
+
+pub put-after : {before : List ℕ} {at : ℕ} {text : List ℕ} {to : ℕ} {after : List ℕ} → Put before at text to after → drop to after ≡ drop to before
+put-after {before} {at} {text} {to} p = ap (drop to) (p .bytes) ∙ sets-after before at text to (omega (arith, p .place))
 
 -- no text, and one byte
 pub put-none : {before : List ℕ} {at : ℕ} → Put before at [] at before

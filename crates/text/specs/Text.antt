@@ -1,5 +1,5 @@
 -- Texts as ASCII codes, a number in decimal, a line of both; and what every function promises that puts a text into lent bytes.
-use Prim.Native.Nat.{ℕ, zero, suc, _+_, _-_, _*_, _/_, _%_}
+use Prim.Native.Nat.{ℕ, zero, suc, _+_, _-_, _*_, _/_, _%_, _≤_}
 use Prim.Native.Char.{code}
 use Prim.Native.String.{String, [] as none, _∷_ as _then_}
 use mathlib.Core.Path.{_≡_}
@@ -9,7 +9,6 @@ use lib.Dec.{ltb, leb, eqb}
 use lib.ListN.{length}
 use lib.Seq.{sets}
 use Rattle.rules.specs.Rule.{pick}
-use Rattle.text.specs.declared.number.Number.{Number}
 
 -- the ASCII codes of a text
 unfoldable pub ascii : String → List ℕ
@@ -36,34 +35,28 @@ decimalWithin (suc k) n = pick (ltb n 10) [] (decimalWithin k (n / 10)) ++ (digi
 unfoldable pub decimal : ℕ → List ℕ
 decimal n = decimalWithin 20 n
 
--- The number that a text is, if it has 1 to 18 digits and nothing else.
 abbrev pub isDigit : ℕ → Bool
 isDigit c = leb 48 c && leb c 57
-
-unfoldable pub allDigits : List ℕ → Bool
-allDigits [] = true
-allDigits (c ∷ cs) = isDigit c && allDigits cs
 
 -- the number that digits after `v` are
 unfoldable pub valueAfter : ℕ → List ℕ → ℕ
 valueAfter v [] = v
 valueAfter v (d ∷ ds) = valueAfter (10 * v + (d - 48)) ds
 
-abbrev pub noNumber : Number
-noNumber = record { valid = false; value = 0 }
-
-unfoldable pub digitsNumber : List ℕ → Number
-digitsNumber text = pick (allDigits text) (record { valid = true; value = valueAfter 0 text }) noNumber
-
-unfoldable pub numberIn : List ℕ → Number
-numberIn text = pick (leb 1 (length text) && leb (length text) 18) (digitsNumber text) noNumber
+abbrev pub newline : List ℕ
+newline = 10 ∷ []
 
 -- a line: words, each with the number after it
 unfoldable pub line : List (String × ℕ) → List ℕ
-line [] = 10 ∷ []
+line [] = newline
 line (x ∷ xs) = (ascii (x .0) ++ decimal (x .1)) ++ line xs
 
 -- a text put at a place of the bytes: the place after it, and the bytes then, of which all others are as they were
 pub record Put (before : List ℕ) (at : ℕ) (text : List ℕ) (to : ℕ) (after : List ℕ) : Type 0 where
   pub place : to ≡ at + length text
   pub bytes : after ≡ sets before at text
+
+-- What a call promises that puts a line at the beginning of lent bytes, for which there is room.
+pub record Lined (before text : List ℕ) (to : ℕ) (after : List ℕ) : Type 0 where
+  pub put : Put before 0 text to after
+  pub room : to ≤ length after

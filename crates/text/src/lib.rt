@@ -1,5 +1,4 @@
 // Text put into bytes that the caller lends, at a place where there is room for it.
-pub mod number;
 pub mod table;
 
 use rules::Outcome;
@@ -14,6 +13,9 @@ pub struct TextAnswer {
     pub position: usize,
     pub length: usize,
 }
+
+// The bytes that are lent for a line of a listing: enough for every field and every outcome.
+pub const LINE: usize = 256;
 
 // Puts a text, and gives the place after it.
 pub fn put(out: &mut [u8], at: usize, text: &[u8]) -> usize

@@ -12,9 +12,9 @@ use Rattle.rules.specs.Rule.{pick}
 use Rattle.rules.proofs.Laws.{both}
 use Rattle.position.specs.declared.PositionSyntax.{PositionSyntax}
 use Rattle.position.specs.Shape.{default}
-use Rattle.position.specs.Entry.{isShaped}
+use Rattle.position.specs.Formed.{isShaped}
 use Rattle.position.specs.Formed.{Shaped}
-use Rattle.position.proofs.Entries.{shaped-when}
+use Rattle.position.proofs.Formed.{shaped-when}
 use Rattle.scene.proofs.Loops.{one-left, none-left}
 use Rattle.update.specs.Update.{allShaped, mayUpdate, shapesQuestion}
 

@@ -10,7 +10,7 @@ use Rattle.rules.specs.Reading.{Reading, Input}
 use Rattle.rules.specs.Met.{Gives}
 use Rattle.rules.specs.Answer.{entryReading, Answered}
 use Rattle.position.specs.declared.PositionSyntax.{PositionSyntax}
-use Rattle.position.specs.Entry.{isShaped}
+use Rattle.position.specs.Formed.{isShaped}
 use Rattle.validation.specs.Validation.{ifValid}
 use Rattle.scene.specs.declared.TakenShapes.{TakenShapes}
 use Rattle.scene.specs.Positions.{positions}

@@ -51,7 +51,7 @@ fn entered(
     requires { ⌜ own ≡ shapesQuestion count (take count shapes) ⌝ }
     ensures { λ r. ⌜ Positioned (entryThen (length (now (bytes .entry))) (shapesQuestion count (take count shapes)) offset (graphUpdate (take count shapes))) count (now (bytes .entry)) (now (words .entry)) s shapes (r .shapes) (r .state) (now (words .exit)) ⌝ }
 {
-    let t = fields::entry(bytes, s, own, offset);
+    let t = reader::entry(bytes, s, own, offset);
     if own == 0 {
         return updated(bytes, words, t, shapes, count);
     }

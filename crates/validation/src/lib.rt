@@ -106,7 +106,7 @@ pub fn validated(s: State, shapes: [PositionSyntax; 63], count: usize) -> State
         return s;
     }
     let number = verdict(shapes, count);
-    fields::demand(s, number == 0, number)
+    reader::demand(s, number == 0, number)
 }
 
 // The answer at a position, with no fields: read if the number is 0, and refused by it otherwise.

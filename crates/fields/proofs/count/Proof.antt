@@ -7,7 +7,7 @@ use borrow.Author.Needs.{needs}
 use lib.Dec.{leb}
 use Rattle.rules.specs.Derived.{count}
 use Rattle.rules.proofs.Laws.{first-remaining, demand-kept, demand-broken, last, both}
-use Rattle.fields.proofs.Steps.{for-both}
+use Rattle.rules.proofs.Steps.{for-both}
 use Rattle.fields.proofs.count.Statement.{statement}
 use Rattle.fields.proofs.count.Tie as tie
 

@@ -8,7 +8,7 @@ use lib.ListN.{take, drop, getD}
 use lib.Seq.{take-length}
 use denote.Ref.{now}
 use Rattle.position.specs.Shape.{default}
-use Rattle.position.specs.Entry.{isShaped}
+use Rattle.position.specs.Formed.{isShaped}
 use Rattle.update.specs.Update.{allShaped}
 use Rattle.update.proofs.Questions.{shape-kept, shape-broken, shapes-kept, too-many, all-asked}
 use Rattle.lent.proofs.question.Statement.{statement}

@@ -3,11 +3,6 @@ use Rattle.names.proofs.Questions.{if-known, not-known}
 use borrow.Author.Needs.{needs}
 use Rattle.names.proofs.name_text.Statement.{statement}
 use Rattle.names.proofs.name_text.Tie as tie
-use Rattle.names.proofs.name_text.Reads as reads
-use Rattle.names.proofs.name_text.Lts as lts
-use Rattle.names.proofs.known.Reads as known-reads
-use Rattle.names.proofs.refused.Reads as refused-reads
-use Rattle.names.proofs.write_text.Reads as write-text-reads
 
 known-requires : tie.Need-known-requires
 known-requires c κs = search needs

@@ -1,21 +1,13 @@
-use mathlib.Core.Path.{_≡_, sym, ap, _∙_}
-use mathlib.Core.List.{List}
-use Prim.Native.Nat.{_+_, _≤_}
+use mathlib.Core.Path.{_≡_}
 use native.Mathlib.Omega.{arith}
 use lib.ListN.{length}
-use Rattle.text.specs.Text.{Put}
 use Rattle.text.proofs.Puts.{put-long, put-front}
-use Rattle.names.specs.NameText.{nameText}
-use Rattle.names.proofs.Lengths.{name-short}
+use Rattle.name_words.specs.NameText.{nameText}
+use Rattle.name_words.proofs.Lengths.{name-short}
 use Rattle.names.proofs.Questions.{too-few, enough}
 use borrow.Author.Needs.{needs}
 use Rattle.names.proofs.write_text.Statement.{statement}
 use Rattle.names.proofs.write_text.Tie as tie
-use Rattle.names.proofs.write_text.Reads as reads
-use Rattle.names.proofs.write_text.Lts as lts
-use Rattle.names.proofs.put_name.Reads as put-name-reads
-use Rattle.names.proofs.refused.Reads as refused-reads
-use Rattle.text.proofs.put.Reads as put-reads
 
 slice-aggregate-put-name : tie.Need-slice-aggregate-put-name
 slice-aggregate-put-name c = search needs

@@ -1,5 +1,5 @@
 use mathlib.Core.Path.{sym, _∙_}
-use Rattle.show.proofs.Sound.{sound-if, question-met}
+use Rattle.show_header.proofs.Sound.{sound-if, question-met}
 use Rattle.part.proofs.Answers.{sound-answered, file-refused}
 use borrow.Author.Needs.{needs}
 use Rattle.part.proofs.read_part.Statement.{statement}

@@ -1,5 +1,5 @@
 use mathlib.Core.Path.{sym, _∙_}
-use Rattle.show.proofs.Answers.{scene-fits}
+use Rattle.show_parts.proofs.Answers.{scene-fits}
 use Rattle.part.proofs.Answers.{update-answered, scene-unread}
 use borrow.Author.Needs.{needs}
 use Rattle.part.proofs.read_update.Statement.{statement}

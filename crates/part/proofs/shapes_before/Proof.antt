@@ -3,7 +3,7 @@ use mathlib.Core.Path.{_≡_, refl, _∙_}
 use borrow.Author.Needs.{needs}
 use lib.ListN.{take}
 use Rattle.book.specs.Book.{bookShapes}
-use Rattle.show.specs.Show.{packets}
+use Rattle.show_parts.specs.Parts.{packets}
 use Rattle.part.proofs.Answers.{shapes-more, shapes-end}
 use Rattle.part.proofs.shapes_before.Statement.{statement}
 use Rattle.part.proofs.shapes_before.Tie as tie

@@ -1,6 +1,8 @@
 use Rattle.text.proofs.Puts.{put-both, room-first, room-next}
-use Rattle.show.specs.Show.{partLine, restText}
-use Rattle.show.proofs.Answers.{parts-by-scene, scene-fits}
+use Rattle.show_parts.proofs.Answers.{scene-fits}
+use Rattle.show_lines.specs.Lines.{partLine}
+use Rattle.show.specs.Show.{restText}
+use Rattle.show.proofs.Texts.{parts-by-scene}
 use borrow.Author.Needs.{needs}
 use Rattle.show.proofs.put_parts.Statement.{statement}
 use Rattle.show.proofs.put_parts.Tie as tie

@@ -2,7 +2,9 @@ use Prim.Native.Nat.{_-_}
 use borrow.Author.Needs.{needs}
 use lib.ListN.{take}
 use Rattle.text.proofs.Puts.{PutLeft, all-left, less-left, room-left, room-last, put-last}
-use Rattle.show.specs.Show.{partLine, packets, updatesText}
+use Rattle.show_parts.specs.Parts.{packets}
+use Rattle.show_lines.specs.Lines.{partLine}
+use Rattle.show.specs.Show.{updatesText}
 use Rattle.show.proofs.Texts.{update-more, update-end}
 use Rattle.show.proofs.put_updates.Statement.{statement}
 use Rattle.show.proofs.put_updates.Tie as tie

@@ -1,5 +1,5 @@
 use borrow.Author.Needs.{needs}
-use Rattle.fields.proofs.Steps.{steps}
+use Rattle.rules.proofs.Steps.{steps}
 use Rattle.validation.specs.Validation.{validateGraph}
 use Rattle.validation.proofs.validated.Statement.{statement}
 use Rattle.validation.proofs.validated.Tie as tie

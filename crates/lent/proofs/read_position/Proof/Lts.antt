@@ -1,10 +1,10 @@
 -- Made by tools/lent.py.
 use Rattle.lent.proofs.Lent
 use Prim.Native.Nat
-use Rattle.position.proofs.PositionAnswer
-use Rattle.position.proofs.PositionAnswer.Laws
 use Rattle.position.proofs.PositionSyntax
-use Rattle.position.proofs.PositionSyntax.Laws as Laws'
+use Rattle.position.proofs.PositionSyntax.Laws
+use Rattle.position_alone.proofs.PositionAnswer
+use Rattle.position_alone.proofs.PositionAnswer.Laws as Laws'
 use Rattle.rules.proofs.Answer
 use Rattle.rules.proofs.Answer.Laws as Laws''
 use Rattle.rules.proofs.Outcome
@@ -81,7 +81,7 @@ abbrev pub r : Kinds.RK 3
 r = Value.rVal record { ty = Declared'.row Answer.the-type; one = Path'.refl; val = Laws'6.val Answer.the-type Laws''.the-laws; tells = Laws'6.tells Answer.the-type Laws''.the-laws; still = Laws'6.still Answer.the-type Laws''.the-copy Exit.yes; row = Rows.whole (Declared'.row Answer.the-type); rd = λ x. x; mk = λ x. x } λ M 𝓤 H A W. record { copies = Laws'6.copy Answer.the-type Laws''.the-copy 𝓤 H A W; lawful = Laws'6.lawful Answer.the-type Laws''.the-laws 𝓤 H A W; makes = Laws'6.makes Answer.the-type Laws''.the-plain 𝓤 H A; in-mem = Local.mem-whole 𝓤 H A W (Declared'.row Answer.the-type); of-mem = Local.whole-mem 𝓤 H A W (Declared'.row Answer.the-type) }
 
 abbrev pub xs : List.List Syntax.Ty
-xs = List._∷_ (Syntax.tyStruct (List._∷_ 112 (List._∷_ 111 (List._∷_ 115 (List._∷_ 105 (List._∷_ 116 (List._∷_ 105 (List._∷_ 111 (List._∷_ 110 (List._∷_ 58 (List._∷_ 58 (List._∷_ 80 (List._∷_ 111 (List._∷_ 115 (List._∷_ 105 (List._∷_ 116 (List._∷_ 105 (List._∷_ 111 (List._∷_ 110 (List._∷_ 83 (List._∷_ 121 (List._∷_ 110 (List._∷_ 116 (List._∷_ 97 (List._∷_ 120 List.[])))))))))))))))))))))))) (Syntax.tcons Syntax.tyBool (Syntax.tcons Syntax.tyBool (Syntax.tcons (Syntax.tyInt Syntax.w64) (Syntax.tcons (Syntax.tyInt Syntax.w64) (Syntax.tcons (Syntax.tyInt Syntax.w64) (Syntax.tcons Syntax.tyBool Syntax.tnil))))))) (List._∷_ (Syntax.tyStruct (List._∷_ 112 (List._∷_ 111 (List._∷_ 115 (List._∷_ 105 (List._∷_ 116 (List._∷_ 105 (List._∷_ 111 (List._∷_ 110 (List._∷_ 58 (List._∷_ 58 (List._∷_ 80 (List._∷_ 111 (List._∷_ 115 (List._∷_ 105 (List._∷_ 116 (List._∷_ 105 (List._∷_ 111 (List._∷_ 110 (List._∷_ 65 (List._∷_ 110 (List._∷_ 115 (List._∷_ 119 (List._∷_ 101 (List._∷_ 114 List.[])))))))))))))))))))))))) (Syntax.tcons (Syntax.tyStruct (List._∷_ 114 (List._∷_ 117 (List._∷_ 108 (List._∷_ 101 (List._∷_ 115 (List._∷_ 58 (List._∷_ 58 (List._∷_ 65 (List._∷_ 110 (List._∷_ 115 (List._∷_ 119 (List._∷_ 101 (List._∷_ 114 List.[]))))))))))))) (Syntax.tcons (Syntax.tyEnum (List._∷_ 114 (List._∷_ 117 (List._∷_ 108 (List._∷_ 101 (List._∷_ 115 (List._∷_ 58 (List._∷_ 58 (List._∷_ 79 (List._∷_ 117 (List._∷_ 116 (List._∷_ 99 (List._∷_ 111 (List._∷_ 109 (List._∷_ 101 List.[])))))))))))))) (Syntax.ttcons Syntax.tnil (Syntax.ttcons (Syntax.tcons (Syntax.tyInt Syntax.w16) Syntax.tnil) (Syntax.ttcons (Syntax.tcons (Syntax.tyInt Syntax.w16) Syntax.tnil) Syntax.ttnil)))) (Syntax.tcons (Syntax.tyInt Syntax.w64) (Syntax.tcons (Syntax.tyInt Syntax.w64) Syntax.tnil)))) (Syntax.tcons (Syntax.tyStruct (List._∷_ 112 (List._∷_ 111 (List._∷_ 115 (List._∷_ 105 (List._∷_ 116 (List._∷_ 105 (List._∷_ 111 (List._∷_ 110 (List._∷_ 58 (List._∷_ 58 (List._∷_ 80 (List._∷_ 111 (List._∷_ 115 (List._∷_ 105 (List._∷_ 116 (List._∷_ 105 (List._∷_ 111 (List._∷_ 110 (List._∷_ 83 (List._∷_ 121 (List._∷_ 110 (List._∷_ 116 (List._∷_ 97 (List._∷_ 120 List.[])))))))))))))))))))))))) (Syntax.tcons Syntax.tyBool (Syntax.tcons Syntax.tyBool (Syntax.tcons (Syntax.tyInt Syntax.w64) (Syntax.tcons (Syntax.tyInt Syntax.w64) (Syntax.tcons (Syntax.tyInt Syntax.w64) (Syntax.tcons Syntax.tyBool Syntax.tnil))))))) Syntax.tnil))) (List._∷_ (Syntax.tyStruct (List._∷_ 114 (List._∷_ 117 (List._∷_ 108 (List._∷_ 101 (List._∷_ 115 (List._∷_ 58 (List._∷_ 58 (List._∷_ 65 (List._∷_ 110 (List._∷_ 115 (List._∷_ 119 (List._∷_ 101 (List._∷_ 114 List.[]))))))))))))) (Syntax.tcons (Syntax.tyEnum (List._∷_ 114 (List._∷_ 117 (List._∷_ 108 (List._∷_ 101 (List._∷_ 115 (List._∷_ 58 (List._∷_ 58 (List._∷_ 79 (List._∷_ 117 (List._∷_ 116 (List._∷_ 99 (List._∷_ 111 (List._∷_ 109 (List._∷_ 101 List.[])))))))))))))) (Syntax.ttcons Syntax.tnil (Syntax.ttcons (Syntax.tcons (Syntax.tyInt Syntax.w16) Syntax.tnil) (Syntax.ttcons (Syntax.tcons (Syntax.tyInt Syntax.w16) Syntax.tnil) Syntax.ttnil)))) (Syntax.tcons (Syntax.tyInt Syntax.w64) (Syntax.tcons (Syntax.tyInt Syntax.w64) Syntax.tnil)))) (List._∷_ (Syntax.tyEnum (List._∷_ 114 (List._∷_ 117 (List._∷_ 108 (List._∷_ 101 (List._∷_ 115 (List._∷_ 58 (List._∷_ 58 (List._∷_ 79 (List._∷_ 117 (List._∷_ 116 (List._∷_ 99 (List._∷_ 111 (List._∷_ 109 (List._∷_ 101 List.[])))))))))))))) (Syntax.ttcons Syntax.tnil (Syntax.ttcons (Syntax.tcons (Syntax.tyInt Syntax.w16) Syntax.tnil) (Syntax.ttcons (Syntax.tcons (Syntax.tyInt Syntax.w16) Syntax.tnil) Syntax.ttnil)))) (List._∷_ (Syntax.tyStruct (List._∷_ 112 (List._∷_ 111 (List._∷_ 115 (List._∷_ 105 (List._∷_ 116 (List._∷_ 105 (List._∷_ 111 (List._∷_ 110 (List._∷_ 58 (List._∷_ 58 (List._∷_ 80 (List._∷_ 111 (List._∷_ 115 (List._∷_ 105 (List._∷_ 116 (List._∷_ 105 (List._∷_ 111 (List._∷_ 110 (List._∷_ 83 (List._∷_ 121 (List._∷_ 110 (List._∷_ 116 (List._∷_ 97 (List._∷_ 120 List.[])))))))))))))))))))))))) (Syntax.tcons Syntax.tyBool (Syntax.tcons Syntax.tyBool (Syntax.tcons (Syntax.tyInt Syntax.w64) (Syntax.tcons (Syntax.tyInt Syntax.w64) (Syntax.tcons (Syntax.tyInt Syntax.w64) (Syntax.tcons Syntax.tyBool Syntax.tnil))))))) (List._∷_ (Syntax.tyRef Syntax.erased Syntax.imm Lent.refS) (List._∷_ (Syntax.tyRef Syntax.erased Syntax.mut (Syntax.tyInt Syntax.w64)) (List._∷_ (Syntax.tyStruct (List._∷_ 38 (List._∷_ 91 (List._∷_ 93 List.[]))) (Syntax.tcons (Syntax.tyRef Syntax.erased Syntax.mut (Syntax.tyInt Syntax.w64)) (Syntax.tcons (Syntax.tyInt Syntax.w64) Syntax.tnil))) (List._∷_ Syntax.tyBool (List._∷_ Syntax.tyUnit (List._∷_ (Syntax.tyRef Syntax.erased Syntax.mut Lent.refS) List.[]))))))))))
+xs = List._∷_ (Syntax.tyStruct (List._∷_ 112 (List._∷_ 111 (List._∷_ 115 (List._∷_ 105 (List._∷_ 116 (List._∷_ 105 (List._∷_ 111 (List._∷_ 110 (List._∷_ 58 (List._∷_ 58 (List._∷_ 80 (List._∷_ 111 (List._∷_ 115 (List._∷_ 105 (List._∷_ 116 (List._∷_ 105 (List._∷_ 111 (List._∷_ 110 (List._∷_ 83 (List._∷_ 121 (List._∷_ 110 (List._∷_ 116 (List._∷_ 97 (List._∷_ 120 List.[])))))))))))))))))))))))) (Syntax.tcons Syntax.tyBool (Syntax.tcons Syntax.tyBool (Syntax.tcons (Syntax.tyInt Syntax.w64) (Syntax.tcons (Syntax.tyInt Syntax.w64) (Syntax.tcons (Syntax.tyInt Syntax.w64) (Syntax.tcons Syntax.tyBool Syntax.tnil))))))) (List._∷_ (Syntax.tyStruct (List._∷_ 112 (List._∷_ 111 (List._∷_ 115 (List._∷_ 105 (List._∷_ 116 (List._∷_ 105 (List._∷_ 111 (List._∷_ 110 (List._∷_ 95 (List._∷_ 97 (List._∷_ 108 (List._∷_ 111 (List._∷_ 110 (List._∷_ 101 (List._∷_ 58 (List._∷_ 58 (List._∷_ 80 (List._∷_ 111 (List._∷_ 115 (List._∷_ 105 (List._∷_ 116 (List._∷_ 105 (List._∷_ 111 (List._∷_ 110 (List._∷_ 65 (List._∷_ 110 (List._∷_ 115 (List._∷_ 119 (List._∷_ 101 (List._∷_ 114 List.[])))))))))))))))))))))))))))))) (Syntax.tcons (Syntax.tyStruct (List._∷_ 114 (List._∷_ 117 (List._∷_ 108 (List._∷_ 101 (List._∷_ 115 (List._∷_ 58 (List._∷_ 58 (List._∷_ 65 (List._∷_ 110 (List._∷_ 115 (List._∷_ 119 (List._∷_ 101 (List._∷_ 114 List.[]))))))))))))) (Syntax.tcons (Syntax.tyEnum (List._∷_ 114 (List._∷_ 117 (List._∷_ 108 (List._∷_ 101 (List._∷_ 115 (List._∷_ 58 (List._∷_ 58 (List._∷_ 79 (List._∷_ 117 (List._∷_ 116 (List._∷_ 99 (List._∷_ 111 (List._∷_ 109 (List._∷_ 101 List.[])))))))))))))) (Syntax.ttcons Syntax.tnil (Syntax.ttcons (Syntax.tcons (Syntax.tyInt Syntax.w16) Syntax.tnil) (Syntax.ttcons (Syntax.tcons (Syntax.tyInt Syntax.w16) Syntax.tnil) Syntax.ttnil)))) (Syntax.tcons (Syntax.tyInt Syntax.w64) (Syntax.tcons (Syntax.tyInt Syntax.w64) Syntax.tnil)))) (Syntax.tcons (Syntax.tyStruct (List._∷_ 112 (List._∷_ 111 (List._∷_ 115 (List._∷_ 105 (List._∷_ 116 (List._∷_ 105 (List._∷_ 111 (List._∷_ 110 (List._∷_ 58 (List._∷_ 58 (List._∷_ 80 (List._∷_ 111 (List._∷_ 115 (List._∷_ 105 (List._∷_ 116 (List._∷_ 105 (List._∷_ 111 (List._∷_ 110 (List._∷_ 83 (List._∷_ 121 (List._∷_ 110 (List._∷_ 116 (List._∷_ 97 (List._∷_ 120 List.[])))))))))))))))))))))))) (Syntax.tcons Syntax.tyBool (Syntax.tcons Syntax.tyBool (Syntax.tcons (Syntax.tyInt Syntax.w64) (Syntax.tcons (Syntax.tyInt Syntax.w64) (Syntax.tcons (Syntax.tyInt Syntax.w64) (Syntax.tcons Syntax.tyBool Syntax.tnil))))))) Syntax.tnil))) (List._∷_ (Syntax.tyStruct (List._∷_ 114 (List._∷_ 117 (List._∷_ 108 (List._∷_ 101 (List._∷_ 115 (List._∷_ 58 (List._∷_ 58 (List._∷_ 65 (List._∷_ 110 (List._∷_ 115 (List._∷_ 119 (List._∷_ 101 (List._∷_ 114 List.[]))))))))))))) (Syntax.tcons (Syntax.tyEnum (List._∷_ 114 (List._∷_ 117 (List._∷_ 108 (List._∷_ 101 (List._∷_ 115 (List._∷_ 58 (List._∷_ 58 (List._∷_ 79 (List._∷_ 117 (List._∷_ 116 (List._∷_ 99 (List._∷_ 111 (List._∷_ 109 (List._∷_ 101 List.[])))))))))))))) (Syntax.ttcons Syntax.tnil (Syntax.ttcons (Syntax.tcons (Syntax.tyInt Syntax.w16) Syntax.tnil) (Syntax.ttcons (Syntax.tcons (Syntax.tyInt Syntax.w16) Syntax.tnil) Syntax.ttnil)))) (Syntax.tcons (Syntax.tyInt Syntax.w64) (Syntax.tcons (Syntax.tyInt Syntax.w64) Syntax.tnil)))) (List._∷_ (Syntax.tyEnum (List._∷_ 114 (List._∷_ 117 (List._∷_ 108 (List._∷_ 101 (List._∷_ 115 (List._∷_ 58 (List._∷_ 58 (List._∷_ 79 (List._∷_ 117 (List._∷_ 116 (List._∷_ 99 (List._∷_ 111 (List._∷_ 109 (List._∷_ 101 List.[])))))))))))))) (Syntax.ttcons Syntax.tnil (Syntax.ttcons (Syntax.tcons (Syntax.tyInt Syntax.w16) Syntax.tnil) (Syntax.ttcons (Syntax.tcons (Syntax.tyInt Syntax.w16) Syntax.tnil) Syntax.ttnil)))) (List._∷_ (Syntax.tyStruct (List._∷_ 112 (List._∷_ 111 (List._∷_ 115 (List._∷_ 105 (List._∷_ 116 (List._∷_ 105 (List._∷_ 111 (List._∷_ 110 (List._∷_ 58 (List._∷_ 58 (List._∷_ 80 (List._∷_ 111 (List._∷_ 115 (List._∷_ 105 (List._∷_ 116 (List._∷_ 105 (List._∷_ 111 (List._∷_ 110 (List._∷_ 83 (List._∷_ 121 (List._∷_ 110 (List._∷_ 116 (List._∷_ 97 (List._∷_ 120 List.[])))))))))))))))))))))))) (Syntax.tcons Syntax.tyBool (Syntax.tcons Syntax.tyBool (Syntax.tcons (Syntax.tyInt Syntax.w64) (Syntax.tcons (Syntax.tyInt Syntax.w64) (Syntax.tcons (Syntax.tyInt Syntax.w64) (Syntax.tcons Syntax.tyBool Syntax.tnil))))))) (List._∷_ (Syntax.tyRef Syntax.erased Syntax.imm Lent.refS) (List._∷_ (Syntax.tyRef Syntax.erased Syntax.mut (Syntax.tyInt Syntax.w64)) (List._∷_ (Syntax.tyStruct (List._∷_ 38 (List._∷_ 91 (List._∷_ 93 List.[]))) (Syntax.tcons (Syntax.tyRef Syntax.erased Syntax.mut (Syntax.tyInt Syntax.w64)) (Syntax.tcons (Syntax.tyInt Syntax.w64) Syntax.tnil))) (List._∷_ Syntax.tyBool (List._∷_ Syntax.tyUnit (List._∷_ (Syntax.tyRef Syntax.erased Syntax.mut Lent.refS) List.[]))))))))))
 
 abbrev pub m : Nat.ℕ
 m = 3
@@ -90,13 +90,13 @@ abbrev pub ps·0 : List.List (Kinds.PK 1)
 ps·0 = List._∷_ (ShrRef.pShr Lent.R 0 tt) List.[]
 
 abbrev pub r·0 : Kinds.RK 1
-r·0 = Value.rVal record { ty = Declared'.row PositionSyntax.the-type; one = Path'.refl; val = Laws'6.val PositionSyntax.the-type Laws'.the-laws; tells = Laws'6.tells PositionSyntax.the-type Laws'.the-laws; still = Laws'6.still PositionSyntax.the-type Laws'.the-copy Exit.yes; row = Rows.whole (Declared'.row PositionSyntax.the-type); rd = λ x. x; mk = λ x. x } λ M 𝓤 H A W. record { copies = Laws'6.copy PositionSyntax.the-type Laws'.the-copy 𝓤 H A W; lawful = Laws'6.lawful PositionSyntax.the-type Laws'.the-laws 𝓤 H A W; makes = Laws'6.makes PositionSyntax.the-type Laws'.the-plain 𝓤 H A; in-mem = Local.mem-whole 𝓤 H A W (Declared'.row PositionSyntax.the-type); of-mem = Local.whole-mem 𝓤 H A W (Declared'.row PositionSyntax.the-type) }
+r·0 = Value.rVal record { ty = Declared'.row PositionSyntax.the-type; one = Path'.refl; val = Laws'6.val PositionSyntax.the-type Laws.the-laws; tells = Laws'6.tells PositionSyntax.the-type Laws.the-laws; still = Laws'6.still PositionSyntax.the-type Laws.the-copy Exit.yes; row = Rows.whole (Declared'.row PositionSyntax.the-type); rd = λ x. x; mk = λ x. x } λ M 𝓤 H A W. record { copies = Laws'6.copy PositionSyntax.the-type Laws.the-copy 𝓤 H A W; lawful = Laws'6.lawful PositionSyntax.the-type Laws.the-laws 𝓤 H A W; makes = Laws'6.makes PositionSyntax.the-type Laws.the-plain 𝓤 H A; in-mem = Local.mem-whole 𝓤 H A W (Declared'.row PositionSyntax.the-type); of-mem = Local.whole-mem 𝓤 H A W (Declared'.row PositionSyntax.the-type) }
 
 abbrev pub ps·1 : List.List (Kinds.PK 2)
-ps·1 = List._∷_ (ShrSlice.pShrS (Referent.rtF (Referent.fInt Syntax.w8)) 0 tt) (List._∷_ (Num.pNum Syntax.w64) (List._∷_ Bool.pBool (List._∷_ (MutSlice.pMutS (Referent.rtF (Referent.fInt Syntax.w64)) 1 tt) (List._∷_ (Value.pVal record { ty = Declared'.row PositionSyntax.the-type; one = Path'.refl; val = Laws'6.val PositionSyntax.the-type Laws'.the-laws; tells = Laws'6.tells PositionSyntax.the-type Laws'.the-laws; still = Laws'6.still PositionSyntax.the-type Laws'.the-copy Exit.yes; row = Rows.whole (Declared'.row PositionSyntax.the-type); rd = λ x. x; mk = λ x. x } λ M 𝓤 H A W. record { copies = Laws'6.copy PositionSyntax.the-type Laws'.the-copy 𝓤 H A W; lawful = Laws'6.lawful PositionSyntax.the-type Laws'.the-laws 𝓤 H A W; makes = Laws'6.makes PositionSyntax.the-type Laws'.the-plain 𝓤 H A; in-mem = Local.mem-whole 𝓤 H A W (Declared'.row PositionSyntax.the-type); of-mem = Local.whole-mem 𝓤 H A W (Declared'.row PositionSyntax.the-type) }) (List._∷_ Bool.pBool List.[])))))
+ps·1 = List._∷_ (ShrSlice.pShrS (Referent.rtF (Referent.fInt Syntax.w8)) 0 tt) (List._∷_ (Num.pNum Syntax.w64) (List._∷_ Bool.pBool (List._∷_ (MutSlice.pMutS (Referent.rtF (Referent.fInt Syntax.w64)) 1 tt) (List._∷_ (Value.pVal record { ty = Declared'.row PositionSyntax.the-type; one = Path'.refl; val = Laws'6.val PositionSyntax.the-type Laws.the-laws; tells = Laws'6.tells PositionSyntax.the-type Laws.the-laws; still = Laws'6.still PositionSyntax.the-type Laws.the-copy Exit.yes; row = Rows.whole (Declared'.row PositionSyntax.the-type); rd = λ x. x; mk = λ x. x } λ M 𝓤 H A W. record { copies = Laws'6.copy PositionSyntax.the-type Laws.the-copy 𝓤 H A W; lawful = Laws'6.lawful PositionSyntax.the-type Laws.the-laws 𝓤 H A W; makes = Laws'6.makes PositionSyntax.the-type Laws.the-plain 𝓤 H A; in-mem = Local.mem-whole 𝓤 H A W (Declared'.row PositionSyntax.the-type); of-mem = Local.whole-mem 𝓤 H A W (Declared'.row PositionSyntax.the-type) }) (List._∷_ Bool.pBool List.[])))))
 
 abbrev pub r·1 : Kinds.RK 2
-r·1 = Value.rVal record { ty = Declared'.row PositionAnswer.the-type; one = Path'.refl; val = Laws'6.val PositionAnswer.the-type Laws.the-laws; tells = Laws'6.tells PositionAnswer.the-type Laws.the-laws; still = Laws'6.still PositionAnswer.the-type Laws.the-copy Exit.yes; row = Rows.whole (Declared'.row PositionAnswer.the-type); rd = λ x. x; mk = λ x. x } λ M 𝓤 H A W. record { copies = Laws'6.copy PositionAnswer.the-type Laws.the-copy 𝓤 H A W; lawful = Laws'6.lawful PositionAnswer.the-type Laws.the-laws 𝓤 H A W; makes = Laws'6.makes PositionAnswer.the-type Laws.the-plain 𝓤 H A; in-mem = Local.mem-whole 𝓤 H A W (Declared'.row PositionAnswer.the-type); of-mem = Local.whole-mem 𝓤 H A W (Declared'.row PositionAnswer.the-type) }
+r·1 = Value.rVal record { ty = Declared'.row PositionAnswer.the-type; one = Path'.refl; val = Laws'6.val PositionAnswer.the-type Laws'.the-laws; tells = Laws'6.tells PositionAnswer.the-type Laws'.the-laws; still = Laws'6.still PositionAnswer.the-type Laws'.the-copy Exit.yes; row = Rows.whole (Declared'.row PositionAnswer.the-type); rd = λ x. x; mk = λ x. x } λ M 𝓤 H A W. record { copies = Laws'6.copy PositionAnswer.the-type Laws'.the-copy 𝓤 H A W; lawful = Laws'6.lawful PositionAnswer.the-type Laws'.the-laws 𝓤 H A W; makes = Laws'6.makes PositionAnswer.the-type Laws'.the-plain 𝓤 H A; in-mem = Local.mem-whole 𝓤 H A W (Declared'.row PositionAnswer.the-type); of-mem = Local.whole-mem 𝓤 H A W (Declared'.row PositionAnswer.the-type) }
 
 abbrev pub ps·2 : List.List (Kinds.PK 0)
 ps·2 = List._∷_ (Value.pVal record { ty = Declared.row Outcome.the-type; one = Path'.refl; val = Laws'4.val Outcome.the-type Laws'3.the-laws; tells = Laws'4.tells Outcome.the-type Laws'3.the-laws; still = Laws'4.still Outcome.the-type Laws'3.the-copy Exit.yes; row = Rows.whole (Declared.row Outcome.the-type); rd = λ x. x; mk = λ x. x } λ M 𝓤 H A W. record { copies = Laws'4.copy Outcome.the-type Laws'3.the-copy 𝓤 H A W; lawful = Laws'4.lawful Outcome.the-type Laws'3.the-laws 𝓤 H A W tt; makes = Laws'4.makes Outcome.the-type Laws'3.the-plain 𝓤 H A; in-mem = Local.mem-whole 𝓤 H A W (Declared.row Outcome.the-type); of-mem = Local.whole-mem 𝓤 H A W (Declared.row Outcome.the-type) }) List.[]
@@ -105,7 +105,7 @@ abbrev pub r·2 : Kinds.RK 0
 r·2 = Bool.rBool
 
 abbrev pub ps·3 : List.List (Kinds.PK 1)
-ps·3 = List._∷_ (Kinds.pMut Lent.R 0 tt) (List._∷_ (Value.pVal record { ty = Declared'.row PositionSyntax.the-type; one = Path'.refl; val = Laws'6.val PositionSyntax.the-type Laws'.the-laws; tells = Laws'6.tells PositionSyntax.the-type Laws'.the-laws; still = Laws'6.still PositionSyntax.the-type Laws'.the-copy Exit.yes; row = Rows.whole (Declared'.row PositionSyntax.the-type); rd = λ x. x; mk = λ x. x } λ M 𝓤 H A W. record { copies = Laws'6.copy PositionSyntax.the-type Laws'.the-copy 𝓤 H A W; lawful = Laws'6.lawful PositionSyntax.the-type Laws'.the-laws 𝓤 H A W; makes = Laws'6.makes PositionSyntax.the-type Laws'.the-plain 𝓤 H A; in-mem = Local.mem-whole 𝓤 H A W (Declared'.row PositionSyntax.the-type); of-mem = Local.whole-mem 𝓤 H A W (Declared'.row PositionSyntax.the-type) }) List.[])
+ps·3 = List._∷_ (Kinds.pMut Lent.R 0 tt) (List._∷_ (Value.pVal record { ty = Declared'.row PositionSyntax.the-type; one = Path'.refl; val = Laws'6.val PositionSyntax.the-type Laws.the-laws; tells = Laws'6.tells PositionSyntax.the-type Laws.the-laws; still = Laws'6.still PositionSyntax.the-type Laws.the-copy Exit.yes; row = Rows.whole (Declared'.row PositionSyntax.the-type); rd = λ x. x; mk = λ x. x } λ M 𝓤 H A W. record { copies = Laws'6.copy PositionSyntax.the-type Laws.the-copy 𝓤 H A W; lawful = Laws'6.lawful PositionSyntax.the-type Laws.the-laws 𝓤 H A W; makes = Laws'6.makes PositionSyntax.the-type Laws.the-plain 𝓤 H A; in-mem = Local.mem-whole 𝓤 H A W (Declared'.row PositionSyntax.the-type); of-mem = Local.whole-mem 𝓤 H A W (Declared'.row PositionSyntax.the-type) }) List.[])
 
 abbrev pub r·3 : Kinds.RK 1
 r·3 = Unit'.rUnit
@@ -126,7 +126,7 @@ abbrev b3 : Syntax.Body
 b3 = Syntax.assign (Syntax.place 14 List.[]) (Syntax.aggregate (List._∷_ (Syntax.copy (Syntax.place 13 List.[])) (List._∷_ (Syntax.copy (Syntax.place 4 (List._∷_ (Syntax.field 1) List.[]))) List.[])))
 
 abbrev b4 : Syntax.Body
-b4 = Syntax.call "position::read_position" (List._∷_ (Syntax.copy (Syntax.place 1 List.[])) (List._∷_ (Syntax.copy (Syntax.place 2 List.[])) (List._∷_ (Syntax.copy (Syntax.place 3 List.[])) (List._∷_ (Syntax.copy (Syntax.place 14 List.[])) (List._∷_ (Syntax.copy (Syntax.place 7 List.[])) (List._∷_ (Syntax.copy (Syntax.place 6 List.[])) List.[])))))) (Syntax.place 8 List.[])
+b4 = Syntax.call "position_alone::read_position" (List._∷_ (Syntax.copy (Syntax.place 1 List.[])) (List._∷_ (Syntax.copy (Syntax.place 2 List.[])) (List._∷_ (Syntax.copy (Syntax.place 3 List.[])) (List._∷_ (Syntax.copy (Syntax.place 14 List.[])) (List._∷_ (Syntax.copy (Syntax.place 7 List.[])) (List._∷_ (Syntax.copy (Syntax.place 6 List.[])) List.[])))))) (Syntax.place 8 List.[])
 
 abbrev b5 : Syntax.Body
 b5 = Syntax.assign (Syntax.place 9 List.[]) (Syntax.rvOpd (Syntax.copy (Syntax.place 8 (List._∷_ (Syntax.field 0) List.[]))))
@@ -201,31 +201,31 @@ abbrev pub Claims : Type 1
 Claims = Kinds.In 1 ps·0 × Kinds.Out 1 ps·0 r·0 × Kinds.In 2 ps·1 × Kinds.Out 2 ps·1 r·1 × Kinds.In 0 ps·2 × Kinds.Out 0 ps·2 r·2 × Kinds.In 1 ps·3 × Kinds.Out 1 ps·3 r·3
 
 abbrev pub t0 : List.List Row.Entry
-t0 = List._∷_ (0, Rows.any-gone (Syntax.tyStruct (List._∷_ 114 (List._∷_ 117 (List._∷_ 108 (List._∷_ 101 (List._∷_ 115 (List._∷_ 58 (List._∷_ 58 (List._∷_ 65 (List._∷_ 110 (List._∷_ 115 (List._∷_ 119 (List._∷_ 101 (List._∷_ 114 List.[]))))))))))))) (Syntax.tcons (Syntax.tyEnum (List._∷_ 114 (List._∷_ 117 (List._∷_ 108 (List._∷_ 101 (List._∷_ 115 (List._∷_ 58 (List._∷_ 58 (List._∷_ 79 (List._∷_ 117 (List._∷_ 116 (List._∷_ 99 (List._∷_ 111 (List._∷_ 109 (List._∷_ 101 List.[])))))))))))))) (Syntax.ttcons Syntax.tnil (Syntax.ttcons (Syntax.tcons (Syntax.tyInt Syntax.w16) Syntax.tnil) (Syntax.ttcons (Syntax.tcons (Syntax.tyInt Syntax.w16) Syntax.tnil) Syntax.ttnil)))) (Syntax.tcons (Syntax.tyInt Syntax.w64) (Syntax.tcons (Syntax.tyInt Syntax.w64) Syntax.tnil))))) (List._∷_ (1, Rows.sslice (Referent.rtF (Referent.fInt Syntax.w8)) (Syntax.tyRef (Syntax.named 0) Syntax.imm (Syntax.tyInt Syntax.w8)) 0) (List._∷_ (2, Rows.sc-here (Row.sInt Syntax.w64)) (List._∷_ (3, Rows.sc-here Row.sBool) (List._∷_ (4, Mut.mslice (Referent.rtF (Referent.fInt Syntax.w64)) (Syntax.tyRef (Syntax.named 1) Syntax.mut (Syntax.tyInt Syntax.w64)) 1) (List._∷_ (5, Rows.mref Lent.R (Syntax.tyRef (Syntax.named 2) Syntax.mut Lent.refS) 2) (List._∷_ (6, Rows.sc-here Row.sBool) (List._∷_ (7, Rows.any-gone (Syntax.tyStruct (List._∷_ 112 (List._∷_ 111 (List._∷_ 115 (List._∷_ 105 (List._∷_ 116 (List._∷_ 105 (List._∷_ 111 (List._∷_ 110 (List._∷_ 58 (List._∷_ 58 (List._∷_ 80 (List._∷_ 111 (List._∷_ 115 (List._∷_ 105 (List._∷_ 116 (List._∷_ 105 (List._∷_ 111 (List._∷_ 110 (List._∷_ 83 (List._∷_ 121 (List._∷_ 110 (List._∷_ 116 (List._∷_ 97 (List._∷_ 120 List.[])))))))))))))))))))))))) (Syntax.tcons Syntax.tyBool (Syntax.tcons Syntax.tyBool (Syntax.tcons (Syntax.tyInt Syntax.w64) (Syntax.tcons (Syntax.tyInt Syntax.w64) (Syntax.tcons (Syntax.tyInt Syntax.w64) (Syntax.tcons Syntax.tyBool Syntax.tnil)))))))) (List._∷_ (8, Rows.any-gone (Syntax.tyStruct (List._∷_ 112 (List._∷_ 111 (List._∷_ 115 (List._∷_ 105 (List._∷_ 116 (List._∷_ 105 (List._∷_ 111 (List._∷_ 110 (List._∷_ 58 (List._∷_ 58 (List._∷_ 80 (List._∷_ 111 (List._∷_ 115 (List._∷_ 105 (List._∷_ 116 (List._∷_ 105 (List._∷_ 111 (List._∷_ 110 (List._∷_ 65 (List._∷_ 110 (List._∷_ 115 (List._∷_ 119 (List._∷_ 101 (List._∷_ 114 List.[])))))))))))))))))))))))) (Syntax.tcons (Syntax.tyStruct (List._∷_ 114 (List._∷_ 117 (List._∷_ 108 (List._∷_ 101 (List._∷_ 115 (List._∷_ 58 (List._∷_ 58 (List._∷_ 65 (List._∷_ 110 (List._∷_ 115 (List._∷_ 119 (List._∷_ 101 (List._∷_ 114 List.[]))))))))))))) (Syntax.tcons (Syntax.tyEnum (List._∷_ 114 (List._∷_ 117 (List._∷_ 108 (List._∷_ 101 (List._∷_ 115 (List._∷_ 58 (List._∷_ 58 (List._∷_ 79 (List._∷_ 117 (List._∷_ 116 (List._∷_ 99 (List._∷_ 111 (List._∷_ 109 (List._∷_ 101 List.[])))))))))))))) (Syntax.ttcons Syntax.tnil (Syntax.ttcons (Syntax.tcons (Syntax.tyInt Syntax.w16) Syntax.tnil) (Syntax.ttcons (Syntax.tcons (Syntax.tyInt Syntax.w16) Syntax.tnil) Syntax.ttnil)))) (Syntax.tcons (Syntax.tyInt Syntax.w64) (Syntax.tcons (Syntax.tyInt Syntax.w64) Syntax.tnil)))) (Syntax.tcons (Syntax.tyStruct (List._∷_ 112 (List._∷_ 111 (List._∷_ 115 (List._∷_ 105 (List._∷_ 116 (List._∷_ 105 (List._∷_ 111 (List._∷_ 110 (List._∷_ 58 (List._∷_ 58 (List._∷_ 80 (List._∷_ 111 (List._∷_ 115 (List._∷_ 105 (List._∷_ 116 (List._∷_ 105 (List._∷_ 111 (List._∷_ 110 (List._∷_ 83 (List._∷_ 121 (List._∷_ 110 (List._∷_ 116 (List._∷_ 97 (List._∷_ 120 List.[])))))))))))))))))))))))) (Syntax.tcons Syntax.tyBool (Syntax.tcons Syntax.tyBool (Syntax.tcons (Syntax.tyInt Syntax.w64) (Syntax.tcons (Syntax.tyInt Syntax.w64) (Syntax.tcons (Syntax.tyInt Syntax.w64) (Syntax.tcons Syntax.tyBool Syntax.tnil))))))) Syntax.tnil)))) (List._∷_ (9, Rows.any-gone (Syntax.tyStruct (List._∷_ 114 (List._∷_ 117 (List._∷_ 108 (List._∷_ 101 (List._∷_ 115 (List._∷_ 58 (List._∷_ 58 (List._∷_ 65 (List._∷_ 110 (List._∷_ 115 (List._∷_ 119 (List._∷_ 101 (List._∷_ 114 List.[]))))))))))))) (Syntax.tcons (Syntax.tyEnum (List._∷_ 114 (List._∷_ 117 (List._∷_ 108 (List._∷_ 101 (List._∷_ 115 (List._∷_ 58 (List._∷_ 58 (List._∷_ 79 (List._∷_ 117 (List._∷_ 116 (List._∷_ 99 (List._∷_ 111 (List._∷_ 109 (List._∷_ 101 List.[])))))))))))))) (Syntax.ttcons Syntax.tnil (Syntax.ttcons (Syntax.tcons (Syntax.tyInt Syntax.w16) Syntax.tnil) (Syntax.ttcons (Syntax.tcons (Syntax.tyInt Syntax.w16) Syntax.tnil) Syntax.ttnil)))) (Syntax.tcons (Syntax.tyInt Syntax.w64) (Syntax.tcons (Syntax.tyInt Syntax.w64) Syntax.tnil))))) (List._∷_ (10, Rows.any-gone (Syntax.tyEnum (List._∷_ 114 (List._∷_ 117 (List._∷_ 108 (List._∷_ 101 (List._∷_ 115 (List._∷_ 58 (List._∷_ 58 (List._∷_ 79 (List._∷_ 117 (List._∷_ 116 (List._∷_ 99 (List._∷_ 111 (List._∷_ 109 (List._∷_ 101 List.[])))))))))))))) (Syntax.ttcons Syntax.tnil (Syntax.ttcons (Syntax.tcons (Syntax.tyInt Syntax.w16) Syntax.tnil) (Syntax.ttcons (Syntax.tcons (Syntax.tyInt Syntax.w16) Syntax.tnil) Syntax.ttnil))))) (List._∷_ (11, Rows.any-gone (Syntax.tyStruct (List._∷_ 112 (List._∷_ 111 (List._∷_ 115 (List._∷_ 105 (List._∷_ 116 (List._∷_ 105 (List._∷_ 111 (List._∷_ 110 (List._∷_ 58 (List._∷_ 58 (List._∷_ 80 (List._∷_ 111 (List._∷_ 115 (List._∷_ 105 (List._∷_ 116 (List._∷_ 105 (List._∷_ 111 (List._∷_ 110 (List._∷_ 83 (List._∷_ 121 (List._∷_ 110 (List._∷_ 116 (List._∷_ 97 (List._∷_ 120 List.[])))))))))))))))))))))))) (Syntax.tcons Syntax.tyBool (Syntax.tcons Syntax.tyBool (Syntax.tcons (Syntax.tyInt Syntax.w64) (Syntax.tcons (Syntax.tyInt Syntax.w64) (Syntax.tcons (Syntax.tyInt Syntax.w64) (Syntax.tcons Syntax.tyBool Syntax.tnil)))))))) (List._∷_ (12, Rows.any-gone (Syntax.tyRef Syntax.erased Syntax.imm Lent.refS)) (List._∷_ (13, Rows.any-gone (Syntax.tyRef Syntax.erased Syntax.mut (Syntax.tyInt Syntax.w64))) (List._∷_ (14, Rows.any-gone (Syntax.tyStruct (List._∷_ 38 (List._∷_ 91 (List._∷_ 93 List.[]))) (Syntax.tcons (Syntax.tyRef Syntax.erased Syntax.mut (Syntax.tyInt Syntax.w64)) (Syntax.tcons (Syntax.tyInt Syntax.w64) Syntax.tnil)))) (List._∷_ (15, Rows.any-gone Syntax.tyBool) List.[])))))))))))))))
+t0 = List._∷_ (0, Rows.any-gone (Syntax.tyStruct (List._∷_ 114 (List._∷_ 117 (List._∷_ 108 (List._∷_ 101 (List._∷_ 115 (List._∷_ 58 (List._∷_ 58 (List._∷_ 65 (List._∷_ 110 (List._∷_ 115 (List._∷_ 119 (List._∷_ 101 (List._∷_ 114 List.[]))))))))))))) (Syntax.tcons (Syntax.tyEnum (List._∷_ 114 (List._∷_ 117 (List._∷_ 108 (List._∷_ 101 (List._∷_ 115 (List._∷_ 58 (List._∷_ 58 (List._∷_ 79 (List._∷_ 117 (List._∷_ 116 (List._∷_ 99 (List._∷_ 111 (List._∷_ 109 (List._∷_ 101 List.[])))))))))))))) (Syntax.ttcons Syntax.tnil (Syntax.ttcons (Syntax.tcons (Syntax.tyInt Syntax.w16) Syntax.tnil) (Syntax.ttcons (Syntax.tcons (Syntax.tyInt Syntax.w16) Syntax.tnil) Syntax.ttnil)))) (Syntax.tcons (Syntax.tyInt Syntax.w64) (Syntax.tcons (Syntax.tyInt Syntax.w64) Syntax.tnil))))) (List._∷_ (1, Rows.sslice (Referent.rtF (Referent.fInt Syntax.w8)) (Syntax.tyRef (Syntax.named 0) Syntax.imm (Syntax.tyInt Syntax.w8)) 0) (List._∷_ (2, Rows.sc-here (Row.sInt Syntax.w64)) (List._∷_ (3, Rows.sc-here Row.sBool) (List._∷_ (4, Mut.mslice (Referent.rtF (Referent.fInt Syntax.w64)) (Syntax.tyRef (Syntax.named 1) Syntax.mut (Syntax.tyInt Syntax.w64)) 1) (List._∷_ (5, Rows.mref Lent.R (Syntax.tyRef (Syntax.named 2) Syntax.mut Lent.refS) 2) (List._∷_ (6, Rows.sc-here Row.sBool) (List._∷_ (7, Rows.any-gone (Syntax.tyStruct (List._∷_ 112 (List._∷_ 111 (List._∷_ 115 (List._∷_ 105 (List._∷_ 116 (List._∷_ 105 (List._∷_ 111 (List._∷_ 110 (List._∷_ 58 (List._∷_ 58 (List._∷_ 80 (List._∷_ 111 (List._∷_ 115 (List._∷_ 105 (List._∷_ 116 (List._∷_ 105 (List._∷_ 111 (List._∷_ 110 (List._∷_ 83 (List._∷_ 121 (List._∷_ 110 (List._∷_ 116 (List._∷_ 97 (List._∷_ 120 List.[])))))))))))))))))))))))) (Syntax.tcons Syntax.tyBool (Syntax.tcons Syntax.tyBool (Syntax.tcons (Syntax.tyInt Syntax.w64) (Syntax.tcons (Syntax.tyInt Syntax.w64) (Syntax.tcons (Syntax.tyInt Syntax.w64) (Syntax.tcons Syntax.tyBool Syntax.tnil)))))))) (List._∷_ (8, Rows.any-gone (Syntax.tyStruct (List._∷_ 112 (List._∷_ 111 (List._∷_ 115 (List._∷_ 105 (List._∷_ 116 (List._∷_ 105 (List._∷_ 111 (List._∷_ 110 (List._∷_ 95 (List._∷_ 97 (List._∷_ 108 (List._∷_ 111 (List._∷_ 110 (List._∷_ 101 (List._∷_ 58 (List._∷_ 58 (List._∷_ 80 (List._∷_ 111 (List._∷_ 115 (List._∷_ 105 (List._∷_ 116 (List._∷_ 105 (List._∷_ 111 (List._∷_ 110 (List._∷_ 65 (List._∷_ 110 (List._∷_ 115 (List._∷_ 119 (List._∷_ 101 (List._∷_ 114 List.[])))))))))))))))))))))))))))))) (Syntax.tcons (Syntax.tyStruct (List._∷_ 114 (List._∷_ 117 (List._∷_ 108 (List._∷_ 101 (List._∷_ 115 (List._∷_ 58 (List._∷_ 58 (List._∷_ 65 (List._∷_ 110 (List._∷_ 115 (List._∷_ 119 (List._∷_ 101 (List._∷_ 114 List.[]))))))))))))) (Syntax.tcons (Syntax.tyEnum (List._∷_ 114 (List._∷_ 117 (List._∷_ 108 (List._∷_ 101 (List._∷_ 115 (List._∷_ 58 (List._∷_ 58 (List._∷_ 79 (List._∷_ 117 (List._∷_ 116 (List._∷_ 99 (List._∷_ 111 (List._∷_ 109 (List._∷_ 101 List.[])))))))))))))) (Syntax.ttcons Syntax.tnil (Syntax.ttcons (Syntax.tcons (Syntax.tyInt Syntax.w16) Syntax.tnil) (Syntax.ttcons (Syntax.tcons (Syntax.tyInt Syntax.w16) Syntax.tnil) Syntax.ttnil)))) (Syntax.tcons (Syntax.tyInt Syntax.w64) (Syntax.tcons (Syntax.tyInt Syntax.w64) Syntax.tnil)))) (Syntax.tcons (Syntax.tyStruct (List._∷_ 112 (List._∷_ 111 (List._∷_ 115 (List._∷_ 105 (List._∷_ 116 (List._∷_ 105 (List._∷_ 111 (List._∷_ 110 (List._∷_ 58 (List._∷_ 58 (List._∷_ 80 (List._∷_ 111 (List._∷_ 115 (List._∷_ 105 (List._∷_ 116 (List._∷_ 105 (List._∷_ 111 (List._∷_ 110 (List._∷_ 83 (List._∷_ 121 (List._∷_ 110 (List._∷_ 116 (List._∷_ 97 (List._∷_ 120 List.[])))))))))))))))))))))))) (Syntax.tcons Syntax.tyBool (Syntax.tcons Syntax.tyBool (Syntax.tcons (Syntax.tyInt Syntax.w64) (Syntax.tcons (Syntax.tyInt Syntax.w64) (Syntax.tcons (Syntax.tyInt Syntax.w64) (Syntax.tcons Syntax.tyBool Syntax.tnil))))))) Syntax.tnil)))) (List._∷_ (9, Rows.any-gone (Syntax.tyStruct (List._∷_ 114 (List._∷_ 117 (List._∷_ 108 (List._∷_ 101 (List._∷_ 115 (List._∷_ 58 (List._∷_ 58 (List._∷_ 65 (List._∷_ 110 (List._∷_ 115 (List._∷_ 119 (List._∷_ 101 (List._∷_ 114 List.[]))))))))))))) (Syntax.tcons (Syntax.tyEnum (List._∷_ 114 (List._∷_ 117 (List._∷_ 108 (List._∷_ 101 (List._∷_ 115 (List._∷_ 58 (List._∷_ 58 (List._∷_ 79 (List._∷_ 117 (List._∷_ 116 (List._∷_ 99 (List._∷_ 111 (List._∷_ 109 (List._∷_ 101 List.[])))))))))))))) (Syntax.ttcons Syntax.tnil (Syntax.ttcons (Syntax.tcons (Syntax.tyInt Syntax.w16) Syntax.tnil) (Syntax.ttcons (Syntax.tcons (Syntax.tyInt Syntax.w16) Syntax.tnil) Syntax.ttnil)))) (Syntax.tcons (Syntax.tyInt Syntax.w64) (Syntax.tcons (Syntax.tyInt Syntax.w64) Syntax.tnil))))) (List._∷_ (10, Rows.any-gone (Syntax.tyEnum (List._∷_ 114 (List._∷_ 117 (List._∷_ 108 (List._∷_ 101 (List._∷_ 115 (List._∷_ 58 (List._∷_ 58 (List._∷_ 79 (List._∷_ 117 (List._∷_ 116 (List._∷_ 99 (List._∷_ 111 (List._∷_ 109 (List._∷_ 101 List.[])))))))))))))) (Syntax.ttcons Syntax.tnil (Syntax.ttcons (Syntax.tcons (Syntax.tyInt Syntax.w16) Syntax.tnil) (Syntax.ttcons (Syntax.tcons (Syntax.tyInt Syntax.w16) Syntax.tnil) Syntax.ttnil))))) (List._∷_ (11, Rows.any-gone (Syntax.tyStruct (List._∷_ 112 (List._∷_ 111 (List._∷_ 115 (List._∷_ 105 (List._∷_ 116 (List._∷_ 105 (List._∷_ 111 (List._∷_ 110 (List._∷_ 58 (List._∷_ 58 (List._∷_ 80 (List._∷_ 111 (List._∷_ 115 (List._∷_ 105 (List._∷_ 116 (List._∷_ 105 (List._∷_ 111 (List._∷_ 110 (List._∷_ 83 (List._∷_ 121 (List._∷_ 110 (List._∷_ 116 (List._∷_ 97 (List._∷_ 120 List.[])))))))))))))))))))))))) (Syntax.tcons Syntax.tyBool (Syntax.tcons Syntax.tyBool (Syntax.tcons (Syntax.tyInt Syntax.w64) (Syntax.tcons (Syntax.tyInt Syntax.w64) (Syntax.tcons (Syntax.tyInt Syntax.w64) (Syntax.tcons Syntax.tyBool Syntax.tnil)))))))) (List._∷_ (12, Rows.any-gone (Syntax.tyRef Syntax.erased Syntax.imm Lent.refS)) (List._∷_ (13, Rows.any-gone (Syntax.tyRef Syntax.erased Syntax.mut (Syntax.tyInt Syntax.w64))) (List._∷_ (14, Rows.any-gone (Syntax.tyStruct (List._∷_ 38 (List._∷_ 91 (List._∷_ 93 List.[]))) (Syntax.tcons (Syntax.tyRef Syntax.erased Syntax.mut (Syntax.tyInt Syntax.w64)) (Syntax.tcons (Syntax.tyInt Syntax.w64) Syntax.tnil)))) (List._∷_ (15, Rows.any-gone Syntax.tyBool) List.[])))))))))))))))
 
 abbrev pub t1 : List.List Row.Entry
 t1 = List._∷_ (16, Rows.any-gone Syntax.tyUnit) (List._∷_ (17, Rows.any-gone (Syntax.tyRef Syntax.erased Syntax.mut Lent.refS)) List.[])
 
 abbrev pub t2 : List.List Row.Entry
-t2 = List._∷_ (0, Rows.whole (Declared'.row Answer.the-type)) (List._∷_ (1, Rows.sslice (Referent.rtF (Referent.fInt Syntax.w8)) (Syntax.tyRef (Syntax.named 0) Syntax.imm (Syntax.tyInt Syntax.w8)) 0) (List._∷_ (2, Rows.any-gone (Syntax.tyInt Syntax.w64)) (List._∷_ (3, Rows.any-gone Syntax.tyBool) (List._∷_ (4, Mut.mslice (Referent.rtF (Referent.fInt Syntax.w64)) (Syntax.tyRef (Syntax.named 1) Syntax.mut (Syntax.tyInt Syntax.w64)) 1) (List._∷_ (5, Rows.mref Lent.R (Syntax.tyRef (Syntax.named 2) Syntax.mut Lent.refS) 2) (List._∷_ (6, Rows.any-gone Syntax.tyBool) (List._∷_ (7, Rows.any-gone (Syntax.tyStruct (List._∷_ 112 (List._∷_ 111 (List._∷_ 115 (List._∷_ 105 (List._∷_ 116 (List._∷_ 105 (List._∷_ 111 (List._∷_ 110 (List._∷_ 58 (List._∷_ 58 (List._∷_ 80 (List._∷_ 111 (List._∷_ 115 (List._∷_ 105 (List._∷_ 116 (List._∷_ 105 (List._∷_ 111 (List._∷_ 110 (List._∷_ 83 (List._∷_ 121 (List._∷_ 110 (List._∷_ 116 (List._∷_ 97 (List._∷_ 120 List.[])))))))))))))))))))))))) (Syntax.tcons Syntax.tyBool (Syntax.tcons Syntax.tyBool (Syntax.tcons (Syntax.tyInt Syntax.w64) (Syntax.tcons (Syntax.tyInt Syntax.w64) (Syntax.tcons (Syntax.tyInt Syntax.w64) (Syntax.tcons Syntax.tyBool Syntax.tnil)))))))) (List._∷_ (8, Rows.any-gone (Syntax.tyStruct (List._∷_ 112 (List._∷_ 111 (List._∷_ 115 (List._∷_ 105 (List._∷_ 116 (List._∷_ 105 (List._∷_ 111 (List._∷_ 110 (List._∷_ 58 (List._∷_ 58 (List._∷_ 80 (List._∷_ 111 (List._∷_ 115 (List._∷_ 105 (List._∷_ 116 (List._∷_ 105 (List._∷_ 111 (List._∷_ 110 (List._∷_ 65 (List._∷_ 110 (List._∷_ 115 (List._∷_ 119 (List._∷_ 101 (List._∷_ 114 List.[])))))))))))))))))))))))) (Syntax.tcons (Syntax.tyStruct (List._∷_ 114 (List._∷_ 117 (List._∷_ 108 (List._∷_ 101 (List._∷_ 115 (List._∷_ 58 (List._∷_ 58 (List._∷_ 65 (List._∷_ 110 (List._∷_ 115 (List._∷_ 119 (List._∷_ 101 (List._∷_ 114 List.[]))))))))))))) (Syntax.tcons (Syntax.tyEnum (List._∷_ 114 (List._∷_ 117 (List._∷_ 108 (List._∷_ 101 (List._∷_ 115 (List._∷_ 58 (List._∷_ 58 (List._∷_ 79 (List._∷_ 117 (List._∷_ 116 (List._∷_ 99 (List._∷_ 111 (List._∷_ 109 (List._∷_ 101 List.[])))))))))))))) (Syntax.ttcons Syntax.tnil (Syntax.ttcons (Syntax.tcons (Syntax.tyInt Syntax.w16) Syntax.tnil) (Syntax.ttcons (Syntax.tcons (Syntax.tyInt Syntax.w16) Syntax.tnil) Syntax.ttnil)))) (Syntax.tcons (Syntax.tyInt Syntax.w64) (Syntax.tcons (Syntax.tyInt Syntax.w64) Syntax.tnil)))) (Syntax.tcons (Syntax.tyStruct (List._∷_ 112 (List._∷_ 111 (List._∷_ 115 (List._∷_ 105 (List._∷_ 116 (List._∷_ 105 (List._∷_ 111 (List._∷_ 110 (List._∷_ 58 (List._∷_ 58 (List._∷_ 80 (List._∷_ 111 (List._∷_ 115 (List._∷_ 105 (List._∷_ 116 (List._∷_ 105 (List._∷_ 111 (List._∷_ 110 (List._∷_ 83 (List._∷_ 121 (List._∷_ 110 (List._∷_ 116 (List._∷_ 97 (List._∷_ 120 List.[])))))))))))))))))))))))) (Syntax.tcons Syntax.tyBool (Syntax.tcons Syntax.tyBool (Syntax.tcons (Syntax.tyInt Syntax.w64) (Syntax.tcons (Syntax.tyInt Syntax.w64) (Syntax.tcons (Syntax.tyInt Syntax.w64) (Syntax.tcons Syntax.tyBool Syntax.tnil))))))) Syntax.tnil)))) (List._∷_ (9, Rows.any-gone (Syntax.tyStruct (List._∷_ 114 (List._∷_ 117 (List._∷_ 108 (List._∷_ 101 (List._∷_ 115 (List._∷_ 58 (List._∷_ 58 (List._∷_ 65 (List._∷_ 110 (List._∷_ 115 (List._∷_ 119 (List._∷_ 101 (List._∷_ 114 List.[]))))))))))))) (Syntax.tcons (Syntax.tyEnum (List._∷_ 114 (List._∷_ 117 (List._∷_ 108 (List._∷_ 101 (List._∷_ 115 (List._∷_ 58 (List._∷_ 58 (List._∷_ 79 (List._∷_ 117 (List._∷_ 116 (List._∷_ 99 (List._∷_ 111 (List._∷_ 109 (List._∷_ 101 List.[])))))))))))))) (Syntax.ttcons Syntax.tnil (Syntax.ttcons (Syntax.tcons (Syntax.tyInt Syntax.w16) Syntax.tnil) (Syntax.ttcons (Syntax.tcons (Syntax.tyInt Syntax.w16) Syntax.tnil) Syntax.ttnil)))) (Syntax.tcons (Syntax.tyInt Syntax.w64) (Syntax.tcons (Syntax.tyInt Syntax.w64) Syntax.tnil))))) (List._∷_ (10, Rows.any-gone (Syntax.tyEnum (List._∷_ 114 (List._∷_ 117 (List._∷_ 108 (List._∷_ 101 (List._∷_ 115 (List._∷_ 58 (List._∷_ 58 (List._∷_ 79 (List._∷_ 117 (List._∷_ 116 (List._∷_ 99 (List._∷_ 111 (List._∷_ 109 (List._∷_ 101 List.[])))))))))))))) (Syntax.ttcons Syntax.tnil (Syntax.ttcons (Syntax.tcons (Syntax.tyInt Syntax.w16) Syntax.tnil) (Syntax.ttcons (Syntax.tcons (Syntax.tyInt Syntax.w16) Syntax.tnil) Syntax.ttnil))))) (List._∷_ (11, Rows.any-gone (Syntax.tyStruct (List._∷_ 112 (List._∷_ 111 (List._∷_ 115 (List._∷_ 105 (List._∷_ 116 (List._∷_ 105 (List._∷_ 111 (List._∷_ 110 (List._∷_ 58 (List._∷_ 58 (List._∷_ 80 (List._∷_ 111 (List._∷_ 115 (List._∷_ 105 (List._∷_ 116 (List._∷_ 105 (List._∷_ 111 (List._∷_ 110 (List._∷_ 83 (List._∷_ 121 (List._∷_ 110 (List._∷_ 116 (List._∷_ 97 (List._∷_ 120 List.[])))))))))))))))))))))))) (Syntax.tcons Syntax.tyBool (Syntax.tcons Syntax.tyBool (Syntax.tcons (Syntax.tyInt Syntax.w64) (Syntax.tcons (Syntax.tyInt Syntax.w64) (Syntax.tcons (Syntax.tyInt Syntax.w64) (Syntax.tcons Syntax.tyBool Syntax.tnil)))))))) (List._∷_ (12, Rows.any-gone (Syntax.tyRef Syntax.erased Syntax.imm Lent.refS)) (List._∷_ (13, Rows.any-gone (Syntax.tyRef Syntax.erased Syntax.mut (Syntax.tyInt Syntax.w64))) (List._∷_ (14, Rows.any-gone (Syntax.tyStruct (List._∷_ 38 (List._∷_ 91 (List._∷_ 93 List.[]))) (Syntax.tcons (Syntax.tyRef Syntax.erased Syntax.mut (Syntax.tyInt Syntax.w64)) (Syntax.tcons (Syntax.tyInt Syntax.w64) Syntax.tnil)))) (List._∷_ (15, Rows.any-gone Syntax.tyBool) List.[])))))))))))))))
+t2 = List._∷_ (0, Rows.whole (Declared'.row Answer.the-type)) (List._∷_ (1, Rows.sslice (Referent.rtF (Referent.fInt Syntax.w8)) (Syntax.tyRef (Syntax.named 0) Syntax.imm (Syntax.tyInt Syntax.w8)) 0) (List._∷_ (2, Rows.any-gone (Syntax.tyInt Syntax.w64)) (List._∷_ (3, Rows.any-gone Syntax.tyBool) (List._∷_ (4, Mut.mslice (Referent.rtF (Referent.fInt Syntax.w64)) (Syntax.tyRef (Syntax.named 1) Syntax.mut (Syntax.tyInt Syntax.w64)) 1) (List._∷_ (5, Rows.mref Lent.R (Syntax.tyRef (Syntax.named 2) Syntax.mut Lent.refS) 2) (List._∷_ (6, Rows.any-gone Syntax.tyBool) (List._∷_ (7, Rows.any-gone (Syntax.tyStruct (List._∷_ 112 (List._∷_ 111 (List._∷_ 115 (List._∷_ 105 (List._∷_ 116 (List._∷_ 105 (List._∷_ 111 (List._∷_ 110 (List._∷_ 58 (List._∷_ 58 (List._∷_ 80 (List._∷_ 111 (List._∷_ 115 (List._∷_ 105 (List._∷_ 116 (List._∷_ 105 (List._∷_ 111 (List._∷_ 110 (List._∷_ 83 (List._∷_ 121 (List._∷_ 110 (List._∷_ 116 (List._∷_ 97 (List._∷_ 120 List.[])))))))))))))))))))))))) (Syntax.tcons Syntax.tyBool (Syntax.tcons Syntax.tyBool (Syntax.tcons (Syntax.tyInt Syntax.w64) (Syntax.tcons (Syntax.tyInt Syntax.w64) (Syntax.tcons (Syntax.tyInt Syntax.w64) (Syntax.tcons Syntax.tyBool Syntax.tnil)))))))) (List._∷_ (8, Rows.any-gone (Syntax.tyStruct (List._∷_ 112 (List._∷_ 111 (List._∷_ 115 (List._∷_ 105 (List._∷_ 116 (List._∷_ 105 (List._∷_ 111 (List._∷_ 110 (List._∷_ 95 (List._∷_ 97 (List._∷_ 108 (List._∷_ 111 (List._∷_ 110 (List._∷_ 101 (List._∷_ 58 (List._∷_ 58 (List._∷_ 80 (List._∷_ 111 (List._∷_ 115 (List._∷_ 105 (List._∷_ 116 (List._∷_ 105 (List._∷_ 111 (List._∷_ 110 (List._∷_ 65 (List._∷_ 110 (List._∷_ 115 (List._∷_ 119 (List._∷_ 101 (List._∷_ 114 List.[])))))))))))))))))))))))))))))) (Syntax.tcons (Syntax.tyStruct (List._∷_ 114 (List._∷_ 117 (List._∷_ 108 (List._∷_ 101 (List._∷_ 115 (List._∷_ 58 (List._∷_ 58 (List._∷_ 65 (List._∷_ 110 (List._∷_ 115 (List._∷_ 119 (List._∷_ 101 (List._∷_ 114 List.[]))))))))))))) (Syntax.tcons (Syntax.tyEnum (List._∷_ 114 (List._∷_ 117 (List._∷_ 108 (List._∷_ 101 (List._∷_ 115 (List._∷_ 58 (List._∷_ 58 (List._∷_ 79 (List._∷_ 117 (List._∷_ 116 (List._∷_ 99 (List._∷_ 111 (List._∷_ 109 (List._∷_ 101 List.[])))))))))))))) (Syntax.ttcons Syntax.tnil (Syntax.ttcons (Syntax.tcons (Syntax.tyInt Syntax.w16) Syntax.tnil) (Syntax.ttcons (Syntax.tcons (Syntax.tyInt Syntax.w16) Syntax.tnil) Syntax.ttnil)))) (Syntax.tcons (Syntax.tyInt Syntax.w64) (Syntax.tcons (Syntax.tyInt Syntax.w64) Syntax.tnil)))) (Syntax.tcons (Syntax.tyStruct (List._∷_ 112 (List._∷_ 111 (List._∷_ 115 (List._∷_ 105 (List._∷_ 116 (List._∷_ 105 (List._∷_ 111 (List._∷_ 110 (List._∷_ 58 (List._∷_ 58 (List._∷_ 80 (List._∷_ 111 (List._∷_ 115 (List._∷_ 105 (List._∷_ 116 (List._∷_ 105 (List._∷_ 111 (List._∷_ 110 (List._∷_ 83 (List._∷_ 121 (List._∷_ 110 (List._∷_ 116 (List._∷_ 97 (List._∷_ 120 List.[])))))))))))))))))))))))) (Syntax.tcons Syntax.tyBool (Syntax.tcons Syntax.tyBool (Syntax.tcons (Syntax.tyInt Syntax.w64) (Syntax.tcons (Syntax.tyInt Syntax.w64) (Syntax.tcons (Syntax.tyInt Syntax.w64) (Syntax.tcons Syntax.tyBool Syntax.tnil))))))) Syntax.tnil)))) (List._∷_ (9, Rows.any-gone (Syntax.tyStruct (List._∷_ 114 (List._∷_ 117 (List._∷_ 108 (List._∷_ 101 (List._∷_ 115 (List._∷_ 58 (List._∷_ 58 (List._∷_ 65 (List._∷_ 110 (List._∷_ 115 (List._∷_ 119 (List._∷_ 101 (List._∷_ 114 List.[]))))))))))))) (Syntax.tcons (Syntax.tyEnum (List._∷_ 114 (List._∷_ 117 (List._∷_ 108 (List._∷_ 101 (List._∷_ 115 (List._∷_ 58 (List._∷_ 58 (List._∷_ 79 (List._∷_ 117 (List._∷_ 116 (List._∷_ 99 (List._∷_ 111 (List._∷_ 109 (List._∷_ 101 List.[])))))))))))))) (Syntax.ttcons Syntax.tnil (Syntax.ttcons (Syntax.tcons (Syntax.tyInt Syntax.w16) Syntax.tnil) (Syntax.ttcons (Syntax.tcons (Syntax.tyInt Syntax.w16) Syntax.tnil) Syntax.ttnil)))) (Syntax.tcons (Syntax.tyInt Syntax.w64) (Syntax.tcons (Syntax.tyInt Syntax.w64) Syntax.tnil))))) (List._∷_ (10, Rows.any-gone (Syntax.tyEnum (List._∷_ 114 (List._∷_ 117 (List._∷_ 108 (List._∷_ 101 (List._∷_ 115 (List._∷_ 58 (List._∷_ 58 (List._∷_ 79 (List._∷_ 117 (List._∷_ 116 (List._∷_ 99 (List._∷_ 111 (List._∷_ 109 (List._∷_ 101 List.[])))))))))))))) (Syntax.ttcons Syntax.tnil (Syntax.ttcons (Syntax.tcons (Syntax.tyInt Syntax.w16) Syntax.tnil) (Syntax.ttcons (Syntax.tcons (Syntax.tyInt Syntax.w16) Syntax.tnil) Syntax.ttnil))))) (List._∷_ (11, Rows.any-gone (Syntax.tyStruct (List._∷_ 112 (List._∷_ 111 (List._∷_ 115 (List._∷_ 105 (List._∷_ 116 (List._∷_ 105 (List._∷_ 111 (List._∷_ 110 (List._∷_ 58 (List._∷_ 58 (List._∷_ 80 (List._∷_ 111 (List._∷_ 115 (List._∷_ 105 (List._∷_ 116 (List._∷_ 105 (List._∷_ 111 (List._∷_ 110 (List._∷_ 83 (List._∷_ 121 (List._∷_ 110 (List._∷_ 116 (List._∷_ 97 (List._∷_ 120 List.[])))))))))))))))))))))))) (Syntax.tcons Syntax.tyBool (Syntax.tcons Syntax.tyBool (Syntax.tcons (Syntax.tyInt Syntax.w64) (Syntax.tcons (Syntax.tyInt Syntax.w64) (Syntax.tcons (Syntax.tyInt Syntax.w64) (Syntax.tcons Syntax.tyBool Syntax.tnil)))))))) (List._∷_ (12, Rows.any-gone (Syntax.tyRef Syntax.erased Syntax.imm Lent.refS)) (List._∷_ (13, Rows.any-gone (Syntax.tyRef Syntax.erased Syntax.mut (Syntax.tyInt Syntax.w64))) (List._∷_ (14, Rows.any-gone (Syntax.tyStruct (List._∷_ 38 (List._∷_ 91 (List._∷_ 93 List.[]))) (Syntax.tcons (Syntax.tyRef Syntax.erased Syntax.mut (Syntax.tyInt Syntax.w64)) (Syntax.tcons (Syntax.tyInt Syntax.w64) Syntax.tnil)))) (List._∷_ (15, Rows.any-gone Syntax.tyBool) List.[])))))))))))))))
 
 abbrev pub t3 : List.List Row.Entry
-t3 = List._∷_ (0, Rows.any-gone (Syntax.tyStruct (List._∷_ 114 (List._∷_ 117 (List._∷_ 108 (List._∷_ 101 (List._∷_ 115 (List._∷_ 58 (List._∷_ 58 (List._∷_ 65 (List._∷_ 110 (List._∷_ 115 (List._∷_ 119 (List._∷_ 101 (List._∷_ 114 List.[]))))))))))))) (Syntax.tcons (Syntax.tyEnum (List._∷_ 114 (List._∷_ 117 (List._∷_ 108 (List._∷_ 101 (List._∷_ 115 (List._∷_ 58 (List._∷_ 58 (List._∷_ 79 (List._∷_ 117 (List._∷_ 116 (List._∷_ 99 (List._∷_ 111 (List._∷_ 109 (List._∷_ 101 List.[])))))))))))))) (Syntax.ttcons Syntax.tnil (Syntax.ttcons (Syntax.tcons (Syntax.tyInt Syntax.w16) Syntax.tnil) (Syntax.ttcons (Syntax.tcons (Syntax.tyInt Syntax.w16) Syntax.tnil) Syntax.ttnil)))) (Syntax.tcons (Syntax.tyInt Syntax.w64) (Syntax.tcons (Syntax.tyInt Syntax.w64) Syntax.tnil))))) (List._∷_ (1, Rows.sslice (Referent.rtF (Referent.fInt Syntax.w8)) (Syntax.tyRef (Syntax.named 0) Syntax.imm (Syntax.tyInt Syntax.w8)) 0) (List._∷_ (2, Rows.sc-here (Row.sInt Syntax.w64)) (List._∷_ (3, Rows.sc-here Row.sBool) (List._∷_ (4, Mut.mslice (Referent.rtF (Referent.fInt Syntax.w64)) (Syntax.tyRef (Syntax.named 1) Syntax.mut (Syntax.tyInt Syntax.w64)) 1) (List._∷_ (5, Reshare.mref-owedS Lent.R (Syntax.tyRef (Syntax.named 2) Syntax.mut Lent.refS) 2 3 Row.off) (List._∷_ (6, Rows.sc-here Row.sBool) (List._∷_ (7, Rows.any-gone (Syntax.tyStruct (List._∷_ 112 (List._∷_ 111 (List._∷_ 115 (List._∷_ 105 (List._∷_ 116 (List._∷_ 105 (List._∷_ 111 (List._∷_ 110 (List._∷_ 58 (List._∷_ 58 (List._∷_ 80 (List._∷_ 111 (List._∷_ 115 (List._∷_ 105 (List._∷_ 116 (List._∷_ 105 (List._∷_ 111 (List._∷_ 110 (List._∷_ 83 (List._∷_ 121 (List._∷_ 110 (List._∷_ 116 (List._∷_ 97 (List._∷_ 120 List.[])))))))))))))))))))))))) (Syntax.tcons Syntax.tyBool (Syntax.tcons Syntax.tyBool (Syntax.tcons (Syntax.tyInt Syntax.w64) (Syntax.tcons (Syntax.tyInt Syntax.w64) (Syntax.tcons (Syntax.tyInt Syntax.w64) (Syntax.tcons Syntax.tyBool Syntax.tnil)))))))) (List._∷_ (8, Rows.any-gone (Syntax.tyStruct (List._∷_ 112 (List._∷_ 111 (List._∷_ 115 (List._∷_ 105 (List._∷_ 116 (List._∷_ 105 (List._∷_ 111 (List._∷_ 110 (List._∷_ 58 (List._∷_ 58 (List._∷_ 80 (List._∷_ 111 (List._∷_ 115 (List._∷_ 105 (List._∷_ 116 (List._∷_ 105 (List._∷_ 111 (List._∷_ 110 (List._∷_ 65 (List._∷_ 110 (List._∷_ 115 (List._∷_ 119 (List._∷_ 101 (List._∷_ 114 List.[])))))))))))))))))))))))) (Syntax.tcons (Syntax.tyStruct (List._∷_ 114 (List._∷_ 117 (List._∷_ 108 (List._∷_ 101 (List._∷_ 115 (List._∷_ 58 (List._∷_ 58 (List._∷_ 65 (List._∷_ 110 (List._∷_ 115 (List._∷_ 119 (List._∷_ 101 (List._∷_ 114 List.[]))))))))))))) (Syntax.tcons (Syntax.tyEnum (List._∷_ 114 (List._∷_ 117 (List._∷_ 108 (List._∷_ 101 (List._∷_ 115 (List._∷_ 58 (List._∷_ 58 (List._∷_ 79 (List._∷_ 117 (List._∷_ 116 (List._∷_ 99 (List._∷_ 111 (List._∷_ 109 (List._∷_ 101 List.[])))))))))))))) (Syntax.ttcons Syntax.tnil (Syntax.ttcons (Syntax.tcons (Syntax.tyInt Syntax.w16) Syntax.tnil) (Syntax.ttcons (Syntax.tcons (Syntax.tyInt Syntax.w16) Syntax.tnil) Syntax.ttnil)))) (Syntax.tcons (Syntax.tyInt Syntax.w64) (Syntax.tcons (Syntax.tyInt Syntax.w64) Syntax.tnil)))) (Syntax.tcons (Syntax.tyStruct (List._∷_ 112 (List._∷_ 111 (List._∷_ 115 (List._∷_ 105 (List._∷_ 116 (List._∷_ 105 (List._∷_ 111 (List._∷_ 110 (List._∷_ 58 (List._∷_ 58 (List._∷_ 80 (List._∷_ 111 (List._∷_ 115 (List._∷_ 105 (List._∷_ 116 (List._∷_ 105 (List._∷_ 111 (List._∷_ 110 (List._∷_ 83 (List._∷_ 121 (List._∷_ 110 (List._∷_ 116 (List._∷_ 97 (List._∷_ 120 List.[])))))))))))))))))))))))) (Syntax.tcons Syntax.tyBool (Syntax.tcons Syntax.tyBool (Syntax.tcons (Syntax.tyInt Syntax.w64) (Syntax.tcons (Syntax.tyInt Syntax.w64) (Syntax.tcons (Syntax.tyInt Syntax.w64) (Syntax.tcons Syntax.tyBool Syntax.tnil))))))) Syntax.tnil)))) (List._∷_ (9, Rows.any-gone (Syntax.tyStruct (List._∷_ 114 (List._∷_ 117 (List._∷_ 108 (List._∷_ 101 (List._∷_ 115 (List._∷_ 58 (List._∷_ 58 (List._∷_ 65 (List._∷_ 110 (List._∷_ 115 (List._∷_ 119 (List._∷_ 101 (List._∷_ 114 List.[]))))))))))))) (Syntax.tcons (Syntax.tyEnum (List._∷_ 114 (List._∷_ 117 (List._∷_ 108 (List._∷_ 101 (List._∷_ 115 (List._∷_ 58 (List._∷_ 58 (List._∷_ 79 (List._∷_ 117 (List._∷_ 116 (List._∷_ 99 (List._∷_ 111 (List._∷_ 109 (List._∷_ 101 List.[])))))))))))))) (Syntax.ttcons Syntax.tnil (Syntax.ttcons (Syntax.tcons (Syntax.tyInt Syntax.w16) Syntax.tnil) (Syntax.ttcons (Syntax.tcons (Syntax.tyInt Syntax.w16) Syntax.tnil) Syntax.ttnil)))) (Syntax.tcons (Syntax.tyInt Syntax.w64) (Syntax.tcons (Syntax.tyInt Syntax.w64) Syntax.tnil))))) (List._∷_ (10, Rows.any-gone (Syntax.tyEnum (List._∷_ 114 (List._∷_ 117 (List._∷_ 108 (List._∷_ 101 (List._∷_ 115 (List._∷_ 58 (List._∷_ 58 (List._∷_ 79 (List._∷_ 117 (List._∷_ 116 (List._∷_ 99 (List._∷_ 111 (List._∷_ 109 (List._∷_ 101 List.[])))))))))))))) (Syntax.ttcons Syntax.tnil (Syntax.ttcons (Syntax.tcons (Syntax.tyInt Syntax.w16) Syntax.tnil) (Syntax.ttcons (Syntax.tcons (Syntax.tyInt Syntax.w16) Syntax.tnil) Syntax.ttnil))))) (List._∷_ (11, Rows.any-gone (Syntax.tyStruct (List._∷_ 112 (List._∷_ 111 (List._∷_ 115 (List._∷_ 105 (List._∷_ 116 (List._∷_ 105 (List._∷_ 111 (List._∷_ 110 (List._∷_ 58 (List._∷_ 58 (List._∷_ 80 (List._∷_ 111 (List._∷_ 115 (List._∷_ 105 (List._∷_ 116 (List._∷_ 105 (List._∷_ 111 (List._∷_ 110 (List._∷_ 83 (List._∷_ 121 (List._∷_ 110 (List._∷_ 116 (List._∷_ 97 (List._∷_ 120 List.[])))))))))))))))))))))))) (Syntax.tcons Syntax.tyBool (Syntax.tcons Syntax.tyBool (Syntax.tcons (Syntax.tyInt Syntax.w64) (Syntax.tcons (Syntax.tyInt Syntax.w64) (Syntax.tcons (Syntax.tyInt Syntax.w64) (Syntax.tcons Syntax.tyBool Syntax.tnil)))))))) (List._∷_ (12, Rows.sref Lent.R (Syntax.tyRef Syntax.erased Syntax.imm Lent.refS) 3) (List._∷_ (13, Rows.any-gone (Syntax.tyRef Syntax.erased Syntax.mut (Syntax.tyInt Syntax.w64))) (List._∷_ (14, Rows.any-gone (Syntax.tyStruct (List._∷_ 38 (List._∷_ 91 (List._∷_ 93 List.[]))) (Syntax.tcons (Syntax.tyRef Syntax.erased Syntax.mut (Syntax.tyInt Syntax.w64)) (Syntax.tcons (Syntax.tyInt Syntax.w64) Syntax.tnil)))) (List._∷_ (15, Rows.any-gone Syntax.tyBool) List.[])))))))))))))))
+t3 = List._∷_ (0, Rows.any-gone (Syntax.tyStruct (List._∷_ 114 (List._∷_ 117 (List._∷_ 108 (List._∷_ 101 (List._∷_ 115 (List._∷_ 58 (List._∷_ 58 (List._∷_ 65 (List._∷_ 110 (List._∷_ 115 (List._∷_ 119 (List._∷_ 101 (List._∷_ 114 List.[]))))))))))))) (Syntax.tcons (Syntax.tyEnum (List._∷_ 114 (List._∷_ 117 (List._∷_ 108 (List._∷_ 101 (List._∷_ 115 (List._∷_ 58 (List._∷_ 58 (List._∷_ 79 (List._∷_ 117 (List._∷_ 116 (List._∷_ 99 (List._∷_ 111 (List._∷_ 109 (List._∷_ 101 List.[])))))))))))))) (Syntax.ttcons Syntax.tnil (Syntax.ttcons (Syntax.tcons (Syntax.tyInt Syntax.w16) Syntax.tnil) (Syntax.ttcons (Syntax.tcons (Syntax.tyInt Syntax.w16) Syntax.tnil) Syntax.ttnil)))) (Syntax.tcons (Syntax.tyInt Syntax.w64) (Syntax.tcons (Syntax.tyInt Syntax.w64) Syntax.tnil))))) (List._∷_ (1, Rows.sslice (Referent.rtF (Referent.fInt Syntax.w8)) (Syntax.tyRef (Syntax.named 0) Syntax.imm (Syntax.tyInt Syntax.w8)) 0) (List._∷_ (2, Rows.sc-here (Row.sInt Syntax.w64)) (List._∷_ (3, Rows.sc-here Row.sBool) (List._∷_ (4, Mut.mslice (Referent.rtF (Referent.fInt Syntax.w64)) (Syntax.tyRef (Syntax.named 1) Syntax.mut (Syntax.tyInt Syntax.w64)) 1) (List._∷_ (5, Reshare.mref-owedS Lent.R (Syntax.tyRef (Syntax.named 2) Syntax.mut Lent.refS) 2 3 Row.off) (List._∷_ (6, Rows.sc-here Row.sBool) (List._∷_ (7, Rows.any-gone (Syntax.tyStruct (List._∷_ 112 (List._∷_ 111 (List._∷_ 115 (List._∷_ 105 (List._∷_ 116 (List._∷_ 105 (List._∷_ 111 (List._∷_ 110 (List._∷_ 58 (List._∷_ 58 (List._∷_ 80 (List._∷_ 111 (List._∷_ 115 (List._∷_ 105 (List._∷_ 116 (List._∷_ 105 (List._∷_ 111 (List._∷_ 110 (List._∷_ 83 (List._∷_ 121 (List._∷_ 110 (List._∷_ 116 (List._∷_ 97 (List._∷_ 120 List.[])))))))))))))))))))))))) (Syntax.tcons Syntax.tyBool (Syntax.tcons Syntax.tyBool (Syntax.tcons (Syntax.tyInt Syntax.w64) (Syntax.tcons (Syntax.tyInt Syntax.w64) (Syntax.tcons (Syntax.tyInt Syntax.w64) (Syntax.tcons Syntax.tyBool Syntax.tnil)))))))) (List._∷_ (8, Rows.any-gone (Syntax.tyStruct (List._∷_ 112 (List._∷_ 111 (List._∷_ 115 (List._∷_ 105 (List._∷_ 116 (List._∷_ 105 (List._∷_ 111 (List._∷_ 110 (List._∷_ 95 (List._∷_ 97 (List._∷_ 108 (List._∷_ 111 (List._∷_ 110 (List._∷_ 101 (List._∷_ 58 (List._∷_ 58 (List._∷_ 80 (List._∷_ 111 (List._∷_ 115 (List._∷_ 105 (List._∷_ 116 (List._∷_ 105 (List._∷_ 111 (List._∷_ 110 (List._∷_ 65 (List._∷_ 110 (List._∷_ 115 (List._∷_ 119 (List._∷_ 101 (List._∷_ 114 List.[])))))))))))))))))))))))))))))) (Syntax.tcons (Syntax.tyStruct (List._∷_ 114 (List._∷_ 117 (List._∷_ 108 (List._∷_ 101 (List._∷_ 115 (List._∷_ 58 (List._∷_ 58 (List._∷_ 65 (List._∷_ 110 (List._∷_ 115 (List._∷_ 119 (List._∷_ 101 (List._∷_ 114 List.[]))))))))))))) (Syntax.tcons (Syntax.tyEnum (List._∷_ 114 (List._∷_ 117 (List._∷_ 108 (List._∷_ 101 (List._∷_ 115 (List._∷_ 58 (List._∷_ 58 (List._∷_ 79 (List._∷_ 117 (List._∷_ 116 (List._∷_ 99 (List._∷_ 111 (List._∷_ 109 (List._∷_ 101 List.[])))))))))))))) (Syntax.ttcons Syntax.tnil (Syntax.ttcons (Syntax.tcons (Syntax.tyInt Syntax.w16) Syntax.tnil) (Syntax.ttcons (Syntax.tcons (Syntax.tyInt Syntax.w16) Syntax.tnil) Syntax.ttnil)))) (Syntax.tcons (Syntax.tyInt Syntax.w64) (Syntax.tcons (Syntax.tyInt Syntax.w64) Syntax.tnil)))) (Syntax.tcons (Syntax.tyStruct (List._∷_ 112 (List._∷_ 111 (List._∷_ 115 (List._∷_ 105 (List._∷_ 116 (List._∷_ 105 (List._∷_ 111 (List._∷_ 110 (List._∷_ 58 (List._∷_ 58 (List._∷_ 80 (List._∷_ 111 (List._∷_ 115 (List._∷_ 105 (List._∷_ 116 (List._∷_ 105 (List._∷_ 111 (List._∷_ 110 (List._∷_ 83 (List._∷_ 121 (List._∷_ 110 (List._∷_ 116 (List._∷_ 97 (List._∷_ 120 List.[])))))))))))))))))))))))) (Syntax.tcons Syntax.tyBool (Syntax.tcons Syntax.tyBool (Syntax.tcons (Syntax.tyInt Syntax.w64) (Syntax.tcons (Syntax.tyInt Syntax.w64) (Syntax.tcons (Syntax.tyInt Syntax.w64) (Syntax.tcons Syntax.tyBool Syntax.tnil))))))) Syntax.tnil)))) (List._∷_ (9, Rows.any-gone (Syntax.tyStruct (List._∷_ 114 (List._∷_ 117 (List._∷_ 108 (List._∷_ 101 (List._∷_ 115 (List._∷_ 58 (List._∷_ 58 (List._∷_ 65 (List._∷_ 110 (List._∷_ 115 (List._∷_ 119 (List._∷_ 101 (List._∷_ 114 List.[]))))))))))))) (Syntax.tcons (Syntax.tyEnum (List._∷_ 114 (List._∷_ 117 (List._∷_ 108 (List._∷_ 101 (List._∷_ 115 (List._∷_ 58 (List._∷_ 58 (List._∷_ 79 (List._∷_ 117 (List._∷_ 116 (List._∷_ 99 (List._∷_ 111 (List._∷_ 109 (List._∷_ 101 List.[])))))))))))))) (Syntax.ttcons Syntax.tnil (Syntax.ttcons (Syntax.tcons (Syntax.tyInt Syntax.w16) Syntax.tnil) (Syntax.ttcons (Syntax.tcons (Syntax.tyInt Syntax.w16) Syntax.tnil) Syntax.ttnil)))) (Syntax.tcons (Syntax.tyInt Syntax.w64) (Syntax.tcons (Syntax.tyInt Syntax.w64) Syntax.tnil))))) (List._∷_ (10, Rows.any-gone (Syntax.tyEnum (List._∷_ 114 (List._∷_ 117 (List._∷_ 108 (List._∷_ 101 (List._∷_ 115 (List._∷_ 58 (List._∷_ 58 (List._∷_ 79 (List._∷_ 117 (List._∷_ 116 (List._∷_ 99 (List._∷_ 111 (List._∷_ 109 (List._∷_ 101 List.[])))))))))))))) (Syntax.ttcons Syntax.tnil (Syntax.ttcons (Syntax.tcons (Syntax.tyInt Syntax.w16) Syntax.tnil) (Syntax.ttcons (Syntax.tcons (Syntax.tyInt Syntax.w16) Syntax.tnil) Syntax.ttnil))))) (List._∷_ (11, Rows.any-gone (Syntax.tyStruct (List._∷_ 112 (List._∷_ 111 (List._∷_ 115 (List._∷_ 105 (List._∷_ 116 (List._∷_ 105 (List._∷_ 111 (List._∷_ 110 (List._∷_ 58 (List._∷_ 58 (List._∷_ 80 (List._∷_ 111 (List._∷_ 115 (List._∷_ 105 (List._∷_ 116 (List._∷_ 105 (List._∷_ 111 (List._∷_ 110 (List._∷_ 83 (List._∷_ 121 (List._∷_ 110 (List._∷_ 116 (List._∷_ 97 (List._∷_ 120 List.[])))))))))))))))))))))))) (Syntax.tcons Syntax.tyBool (Syntax.tcons Syntax.tyBool (Syntax.tcons (Syntax.tyInt Syntax.w64) (Syntax.tcons (Syntax.tyInt Syntax.w64) (Syntax.tcons (Syntax.tyInt Syntax.w64) (Syntax.tcons Syntax.tyBool Syntax.tnil)))))))) (List._∷_ (12, Rows.sref Lent.R (Syntax.tyRef Syntax.erased Syntax.imm Lent.refS) 3) (List._∷_ (13, Rows.any-gone (Syntax.tyRef Syntax.erased Syntax.mut (Syntax.tyInt Syntax.w64))) (List._∷_ (14, Rows.any-gone (Syntax.tyStruct (List._∷_ 38 (List._∷_ 91 (List._∷_ 93 List.[]))) (Syntax.tcons (Syntax.tyRef Syntax.erased Syntax.mut (Syntax.tyInt Syntax.w64)) (Syntax.tcons (Syntax.tyInt Syntax.w64) Syntax.tnil)))) (List._∷_ (15, Rows.any-gone Syntax.tyBool) List.[])))))))))))))))
 
 abbrev pub t4 : List.List Row.Entry
-t4 = List._∷_ (0, Rows.any-gone (Syntax.tyStruct (List._∷_ 114 (List._∷_ 117 (List._∷_ 108 (List._∷_ 101 (List._∷_ 115 (List._∷_ 58 (List._∷_ 58 (List._∷_ 65 (List._∷_ 110 (List._∷_ 115 (List._∷_ 119 (List._∷_ 101 (List._∷_ 114 List.[]))))))))))))) (Syntax.tcons (Syntax.tyEnum (List._∷_ 114 (List._∷_ 117 (List._∷_ 108 (List._∷_ 101 (List._∷_ 115 (List._∷_ 58 (List._∷_ 58 (List._∷_ 79 (List._∷_ 117 (List._∷_ 116 (List._∷_ 99 (List._∷_ 111 (List._∷_ 109 (List._∷_ 101 List.[])))))))))))))) (Syntax.ttcons Syntax.tnil (Syntax.ttcons (Syntax.tcons (Syntax.tyInt Syntax.w16) Syntax.tnil) (Syntax.ttcons (Syntax.tcons (Syntax.tyInt Syntax.w16) Syntax.tnil) Syntax.ttnil)))) (Syntax.tcons (Syntax.tyInt Syntax.w64) (Syntax.tcons (Syntax.tyInt Syntax.w64) Syntax.tnil))))) (List._∷_ (1, Rows.sslice (Referent.rtF (Referent.fInt Syntax.w8)) (Syntax.tyRef (Syntax.named 0) Syntax.imm (Syntax.tyInt Syntax.w8)) 0) (List._∷_ (2, Rows.sc-here (Row.sInt Syntax.w64)) (List._∷_ (3, Rows.sc-here Row.sBool) (List._∷_ (4, Mut.mslice (Referent.rtF (Referent.fInt Syntax.w64)) (Syntax.tyRef (Syntax.named 1) Syntax.mut (Syntax.tyInt Syntax.w64)) 1) (List._∷_ (5, Reshare.mref-owedS Lent.R (Syntax.tyRef (Syntax.named 2) Syntax.mut Lent.refS) 2 3 Row.off) (List._∷_ (6, Rows.sc-here Row.sBool) (List._∷_ (7, Rows.whole (Declared'.row PositionSyntax.the-type)) (List._∷_ (8, Rows.any-gone (Syntax.tyStruct (List._∷_ 112 (List._∷_ 111 (List._∷_ 115 (List._∷_ 105 (List._∷_ 116 (List._∷_ 105 (List._∷_ 111 (List._∷_ 110 (List._∷_ 58 (List._∷_ 58 (List._∷_ 80 (List._∷_ 111 (List._∷_ 115 (List._∷_ 105 (List._∷_ 116 (List._∷_ 105 (List._∷_ 111 (List._∷_ 110 (List._∷_ 65 (List._∷_ 110 (List._∷_ 115 (List._∷_ 119 (List._∷_ 101 (List._∷_ 114 List.[])))))))))))))))))))))))) (Syntax.tcons (Syntax.tyStruct (List._∷_ 114 (List._∷_ 117 (List._∷_ 108 (List._∷_ 101 (List._∷_ 115 (List._∷_ 58 (List._∷_ 58 (List._∷_ 65 (List._∷_ 110 (List._∷_ 115 (List._∷_ 119 (List._∷_ 101 (List._∷_ 114 List.[]))))))))))))) (Syntax.tcons (Syntax.tyEnum (List._∷_ 114 (List._∷_ 117 (List._∷_ 108 (List._∷_ 101 (List._∷_ 115 (List._∷_ 58 (List._∷_ 58 (List._∷_ 79 (List._∷_ 117 (List._∷_ 116 (List._∷_ 99 (List._∷_ 111 (List._∷_ 109 (List._∷_ 101 List.[])))))))))))))) (Syntax.ttcons Syntax.tnil (Syntax.ttcons (Syntax.tcons (Syntax.tyInt Syntax.w16) Syntax.tnil) (Syntax.ttcons (Syntax.tcons (Syntax.tyInt Syntax.w16) Syntax.tnil) Syntax.ttnil)))) (Syntax.tcons (Syntax.tyInt Syntax.w64) (Syntax.tcons (Syntax.tyInt Syntax.w64) Syntax.tnil)))) (Syntax.tcons (Syntax.tyStruct (List._∷_ 112 (List._∷_ 111 (List._∷_ 115 (List._∷_ 105 (List._∷_ 116 (List._∷_ 105 (List._∷_ 111 (List._∷_ 110 (List._∷_ 58 (List._∷_ 58 (List._∷_ 80 (List._∷_ 111 (List._∷_ 115 (List._∷_ 105 (List._∷_ 116 (List._∷_ 105 (List._∷_ 111 (List._∷_ 110 (List._∷_ 83 (List._∷_ 121 (List._∷_ 110 (List._∷_ 116 (List._∷_ 97 (List._∷_ 120 List.[])))))))))))))))))))))))) (Syntax.tcons Syntax.tyBool (Syntax.tcons Syntax.tyBool (Syntax.tcons (Syntax.tyInt Syntax.w64) (Syntax.tcons (Syntax.tyInt Syntax.w64) (Syntax.tcons (Syntax.tyInt Syntax.w64) (Syntax.tcons Syntax.tyBool Syntax.tnil))))))) Syntax.tnil)))) (List._∷_ (9, Rows.any-gone (Syntax.tyStruct (List._∷_ 114 (List._∷_ 117 (List._∷_ 108 (List._∷_ 101 (List._∷_ 115 (List._∷_ 58 (List._∷_ 58 (List._∷_ 65 (List._∷_ 110 (List._∷_ 115 (List._∷_ 119 (List._∷_ 101 (List._∷_ 114 List.[]))))))))))))) (Syntax.tcons (Syntax.tyEnum (List._∷_ 114 (List._∷_ 117 (List._∷_ 108 (List._∷_ 101 (List._∷_ 115 (List._∷_ 58 (List._∷_ 58 (List._∷_ 79 (List._∷_ 117 (List._∷_ 116 (List._∷_ 99 (List._∷_ 111 (List._∷_ 109 (List._∷_ 101 List.[])))))))))))))) (Syntax.ttcons Syntax.tnil (Syntax.ttcons (Syntax.tcons (Syntax.tyInt Syntax.w16) Syntax.tnil) (Syntax.ttcons (Syntax.tcons (Syntax.tyInt Syntax.w16) Syntax.tnil) Syntax.ttnil)))) (Syntax.tcons (Syntax.tyInt Syntax.w64) (Syntax.tcons (Syntax.tyInt Syntax.w64) Syntax.tnil))))) (List._∷_ (10, Rows.any-gone (Syntax.tyEnum (List._∷_ 114 (List._∷_ 117 (List._∷_ 108 (List._∷_ 101 (List._∷_ 115 (List._∷_ 58 (List._∷_ 58 (List._∷_ 79 (List._∷_ 117 (List._∷_ 116 (List._∷_ 99 (List._∷_ 111 (List._∷_ 109 (List._∷_ 101 List.[])))))))))))))) (Syntax.ttcons Syntax.tnil (Syntax.ttcons (Syntax.tcons (Syntax.tyInt Syntax.w16) Syntax.tnil) (Syntax.ttcons (Syntax.tcons (Syntax.tyInt Syntax.w16) Syntax.tnil) Syntax.ttnil))))) (List._∷_ (11, Rows.any-gone (Syntax.tyStruct (List._∷_ 112 (List._∷_ 111 (List._∷_ 115 (List._∷_ 105 (List._∷_ 116 (List._∷_ 105 (List._∷_ 111 (List._∷_ 110 (List._∷_ 58 (List._∷_ 58 (List._∷_ 80 (List._∷_ 111 (List._∷_ 115 (List._∷_ 105 (List._∷_ 116 (List._∷_ 105 (List._∷_ 111 (List._∷_ 110 (List._∷_ 83 (List._∷_ 121 (List._∷_ 110 (List._∷_ 116 (List._∷_ 97 (List._∷_ 120 List.[])))))))))))))))))))))))) (Syntax.tcons Syntax.tyBool (Syntax.tcons Syntax.tyBool (Syntax.tcons (Syntax.tyInt Syntax.w64) (Syntax.tcons (Syntax.tyInt Syntax.w64) (Syntax.tcons (Syntax.tyInt Syntax.w64) (Syntax.tcons Syntax.tyBool Syntax.tnil)))))))) (List._∷_ (12, Rows.sref Lent.R (Syntax.tyRef Syntax.erased Syntax.imm Lent.refS) 3) (List._∷_ (13, Rows.any-gone (Syntax.tyRef Syntax.erased Syntax.mut (Syntax.tyInt Syntax.w64))) (List._∷_ (14, Rows.any-gone (Syntax.tyStruct (List._∷_ 38 (List._∷_ 91 (List._∷_ 93 List.[]))) (Syntax.tcons (Syntax.tyRef Syntax.erased Syntax.mut (Syntax.tyInt Syntax.w64)) (Syntax.tcons (Syntax.tyInt Syntax.w64) Syntax.tnil)))) (List._∷_ (15, Rows.any-gone Syntax.tyBool) List.[])))))))))))))))
+t4 = List._∷_ (0, Rows.any-gone (Syntax.tyStruct (List._∷_ 114 (List._∷_ 117 (List._∷_ 108 (List._∷_ 101 (List._∷_ 115 (List._∷_ 58 (List._∷_ 58 (List._∷_ 65 (List._∷_ 110 (List._∷_ 115 (List._∷_ 119 (List._∷_ 101 (List._∷_ 114 List.[]))))))))))))) (Syntax.tcons (Syntax.tyEnum (List._∷_ 114 (List._∷_ 117 (List._∷_ 108 (List._∷_ 101 (List._∷_ 115 (List._∷_ 58 (List._∷_ 58 (List._∷_ 79 (List._∷_ 117 (List._∷_ 116 (List._∷_ 99 (List._∷_ 111 (List._∷_ 109 (List._∷_ 101 List.[])))))))))))))) (Syntax.ttcons Syntax.tnil (Syntax.ttcons (Syntax.tcons (Syntax.tyInt Syntax.w16) Syntax.tnil) (Syntax.ttcons (Syntax.tcons (Syntax.tyInt Syntax.w16) Syntax.tnil) Syntax.ttnil)))) (Syntax.tcons (Syntax.tyInt Syntax.w64) (Syntax.tcons (Syntax.tyInt Syntax.w64) Syntax.tnil))))) (List._∷_ (1, Rows.sslice (Referent.rtF (Referent.fInt Syntax.w8)) (Syntax.tyRef (Syntax.named 0) Syntax.imm (Syntax.tyInt Syntax.w8)) 0) (List._∷_ (2, Rows.sc-here (Row.sInt Syntax.w64)) (List._∷_ (3, Rows.sc-here Row.sBool) (List._∷_ (4, Mut.mslice (Referent.rtF (Referent.fInt Syntax.w64)) (Syntax.tyRef (Syntax.named 1) Syntax.mut (Syntax.tyInt Syntax.w64)) 1) (List._∷_ (5, Reshare.mref-owedS Lent.R (Syntax.tyRef (Syntax.named 2) Syntax.mut Lent.refS) 2 3 Row.off) (List._∷_ (6, Rows.sc-here Row.sBool) (List._∷_ (7, Rows.whole (Declared'.row PositionSyntax.the-type)) (List._∷_ (8, Rows.any-gone (Syntax.tyStruct (List._∷_ 112 (List._∷_ 111 (List._∷_ 115 (List._∷_ 105 (List._∷_ 116 (List._∷_ 105 (List._∷_ 111 (List._∷_ 110 (List._∷_ 95 (List._∷_ 97 (List._∷_ 108 (List._∷_ 111 (List._∷_ 110 (List._∷_ 101 (List._∷_ 58 (List._∷_ 58 (List._∷_ 80 (List._∷_ 111 (List._∷_ 115 (List._∷_ 105 (List._∷_ 116 (List._∷_ 105 (List._∷_ 111 (List._∷_ 110 (List._∷_ 65 (List._∷_ 110 (List._∷_ 115 (List._∷_ 119 (List._∷_ 101 (List._∷_ 114 List.[])))))))))))))))))))))))))))))) (Syntax.tcons (Syntax.tyStruct (List._∷_ 114 (List._∷_ 117 (List._∷_ 108 (List._∷_ 101 (List._∷_ 115 (List._∷_ 58 (List._∷_ 58 (List._∷_ 65 (List._∷_ 110 (List._∷_ 115 (List._∷_ 119 (List._∷_ 101 (List._∷_ 114 List.[]))))))))))))) (Syntax.tcons (Syntax.tyEnum (List._∷_ 114 (List._∷_ 117 (List._∷_ 108 (List._∷_ 101 (List._∷_ 115 (List._∷_ 58 (List._∷_ 58 (List._∷_ 79 (List._∷_ 117 (List._∷_ 116 (List._∷_ 99 (List._∷_ 111 (List._∷_ 109 (List._∷_ 101 List.[])))))))))))))) (Syntax.ttcons Syntax.tnil (Syntax.ttcons (Syntax.tcons (Syntax.tyInt Syntax.w16) Syntax.tnil) (Syntax.ttcons (Syntax.tcons (Syntax.tyInt Syntax.w16) Syntax.tnil) Syntax.ttnil)))) (Syntax.tcons (Syntax.tyInt Syntax.w64) (Syntax.tcons (Syntax.tyInt Syntax.w64) Syntax.tnil)))) (Syntax.tcons (Syntax.tyStruct (List._∷_ 112 (List._∷_ 111 (List._∷_ 115 (List._∷_ 105 (List._∷_ 116 (List._∷_ 105 (List._∷_ 111 (List._∷_ 110 (List._∷_ 58 (List._∷_ 58 (List._∷_ 80 (List._∷_ 111 (List._∷_ 115 (List._∷_ 105 (List._∷_ 116 (List._∷_ 105 (List._∷_ 111 (List._∷_ 110 (List._∷_ 83 (List._∷_ 121 (List._∷_ 110 (List._∷_ 116 (List._∷_ 97 (List._∷_ 120 List.[])))))))))))))))))))))))) (Syntax.tcons Syntax.tyBool (Syntax.tcons Syntax.tyBool (Syntax.tcons (Syntax.tyInt Syntax.w64) (Syntax.tcons (Syntax.tyInt Syntax.w64) (Syntax.tcons (Syntax.tyInt Syntax.w64) (Syntax.tcons Syntax.tyBool Syntax.tnil))))))) Syntax.tnil)))) (List._∷_ (9, Rows.any-gone (Syntax.tyStruct (List._∷_ 114 (List._∷_ 117 (List._∷_ 108 (List._∷_ 101 (List._∷_ 115 (List._∷_ 58 (List._∷_ 58 (List._∷_ 65 (List._∷_ 110 (List._∷_ 115 (List._∷_ 119 (List._∷_ 101 (List._∷_ 114 List.[]))))))))))))) (Syntax.tcons (Syntax.tyEnum (List._∷_ 114 (List._∷_ 117 (List._∷_ 108 (List._∷_ 101 (List._∷_ 115 (List._∷_ 58 (List._∷_ 58 (List._∷_ 79 (List._∷_ 117 (List._∷_ 116 (List._∷_ 99 (List._∷_ 111 (List._∷_ 109 (List._∷_ 101 List.[])))))))))))))) (Syntax.ttcons Syntax.tnil (Syntax.ttcons (Syntax.tcons (Syntax.tyInt Syntax.w16) Syntax.tnil) (Syntax.ttcons (Syntax.tcons (Syntax.tyInt Syntax.w16) Syntax.tnil) Syntax.ttnil)))) (Syntax.tcons (Syntax.tyInt Syntax.w64) (Syntax.tcons (Syntax.tyInt Syntax.w64) Syntax.tnil))))) (List._∷_ (10, Rows.any-gone (Syntax.tyEnum (List._∷_ 114 (List._∷_ 117 (List._∷_ 108 (List._∷_ 101 (List._∷_ 115 (List._∷_ 58 (List._∷_ 58 (List._∷_ 79 (List._∷_ 117 (List._∷_ 116 (List._∷_ 99 (List._∷_ 111 (List._∷_ 109 (List._∷_ 101 List.[])))))))))))))) (Syntax.ttcons Syntax.tnil (Syntax.ttcons (Syntax.tcons (Syntax.tyInt Syntax.w16) Syntax.tnil) (Syntax.ttcons (Syntax.tcons (Syntax.tyInt Syntax.w16) Syntax.tnil) Syntax.ttnil))))) (List._∷_ (11, Rows.any-gone (Syntax.tyStruct (List._∷_ 112 (List._∷_ 111 (List._∷_ 115 (List._∷_ 105 (List._∷_ 116 (List._∷_ 105 (List._∷_ 111 (List._∷_ 110 (List._∷_ 58 (List._∷_ 58 (List._∷_ 80 (List._∷_ 111 (List._∷_ 115 (List._∷_ 105 (List._∷_ 116 (List._∷_ 105 (List._∷_ 111 (List._∷_ 110 (List._∷_ 83 (List._∷_ 121 (List._∷_ 110 (List._∷_ 116 (List._∷_ 97 (List._∷_ 120 List.[])))))))))))))))))))))))) (Syntax.tcons Syntax.tyBool (Syntax.tcons Syntax.tyBool (Syntax.tcons (Syntax.tyInt Syntax.w64) (Syntax.tcons (Syntax.tyInt Syntax.w64) (Syntax.tcons (Syntax.tyInt Syntax.w64) (Syntax.tcons Syntax.tyBool Syntax.tnil)))))))) (List._∷_ (12, Rows.sref Lent.R (Syntax.tyRef Syntax.erased Syntax.imm Lent.refS) 3) (List._∷_ (13, Rows.any-gone (Syntax.tyRef Syntax.erased Syntax.mut (Syntax.tyInt Syntax.w64))) (List._∷_ (14, Rows.any-gone (Syntax.tyStruct (List._∷_ 38 (List._∷_ 91 (List._∷_ 93 List.[]))) (Syntax.tcons (Syntax.tyRef Syntax.erased Syntax.mut (Syntax.tyInt Syntax.w64)) (Syntax.tcons (Syntax.tyInt Syntax.w64) Syntax.tnil)))) (List._∷_ (15, Rows.any-gone Syntax.tyBool) List.[])))))))))))))))
 
 abbrev pub t5 : List.List Row.Entry
-t5 = List._∷_ (0, Rows.any-gone (Syntax.tyStruct (List._∷_ 114 (List._∷_ 117 (List._∷_ 108 (List._∷_ 101 (List._∷_ 115 (List._∷_ 58 (List._∷_ 58 (List._∷_ 65 (List._∷_ 110 (List._∷_ 115 (List._∷_ 119 (List._∷_ 101 (List._∷_ 114 List.[]))))))))))))) (Syntax.tcons (Syntax.tyEnum (List._∷_ 114 (List._∷_ 117 (List._∷_ 108 (List._∷_ 101 (List._∷_ 115 (List._∷_ 58 (List._∷_ 58 (List._∷_ 79 (List._∷_ 117 (List._∷_ 116 (List._∷_ 99 (List._∷_ 111 (List._∷_ 109 (List._∷_ 101 List.[])))))))))))))) (Syntax.ttcons Syntax.tnil (Syntax.ttcons (Syntax.tcons (Syntax.tyInt Syntax.w16) Syntax.tnil) (Syntax.ttcons (Syntax.tcons (Syntax.tyInt Syntax.w16) Syntax.tnil) Syntax.ttnil)))) (Syntax.tcons (Syntax.tyInt Syntax.w64) (Syntax.tcons (Syntax.tyInt Syntax.w64) Syntax.tnil))))) (List._∷_ (1, Rows.sslice (Referent.rtF (Referent.fInt Syntax.w8)) (Syntax.tyRef (Syntax.named 0) Syntax.imm (Syntax.tyInt Syntax.w8)) 0) (List._∷_ (2, Rows.sc-here (Row.sInt Syntax.w64)) (List._∷_ (3, Rows.sc-here Row.sBool) (List._∷_ (4, Mut.mslice (Referent.rtF (Referent.fInt Syntax.w64)) (Syntax.tyRef (Syntax.named 1) Syntax.mut (Syntax.tyInt Syntax.w64)) 1) (List._∷_ (5, Reshare.mref-owedS Lent.R (Syntax.tyRef (Syntax.named 2) Syntax.mut Lent.refS) 2 3 Row.off) (List._∷_ (6, Rows.sc-here Row.sBool) (List._∷_ (7, Rows.whole (Declared'.row PositionSyntax.the-type)) (List._∷_ (8, Rows.any-gone (Syntax.tyStruct (List._∷_ 112 (List._∷_ 111 (List._∷_ 115 (List._∷_ 105 (List._∷_ 116 (List._∷_ 105 (List._∷_ 111 (List._∷_ 110 (List._∷_ 58 (List._∷_ 58 (List._∷_ 80 (List._∷_ 111 (List._∷_ 115 (List._∷_ 105 (List._∷_ 116 (List._∷_ 105 (List._∷_ 111 (List._∷_ 110 (List._∷_ 65 (List._∷_ 110 (List._∷_ 115 (List._∷_ 119 (List._∷_ 101 (List._∷_ 114 List.[])))))))))))))))))))))))) (Syntax.tcons (Syntax.tyStruct (List._∷_ 114 (List._∷_ 117 (List._∷_ 108 (List._∷_ 101 (List._∷_ 115 (List._∷_ 58 (List._∷_ 58 (List._∷_ 65 (List._∷_ 110 (List._∷_ 115 (List._∷_ 119 (List._∷_ 101 (List._∷_ 114 List.[]))))))))))))) (Syntax.tcons (Syntax.tyEnum (List._∷_ 114 (List._∷_ 117 (List._∷_ 108 (List._∷_ 101 (List._∷_ 115 (List._∷_ 58 (List._∷_ 58 (List._∷_ 79 (List._∷_ 117 (List._∷_ 116 (List._∷_ 99 (List._∷_ 111 (List._∷_ 109 (List._∷_ 101 List.[])))))))))))))) (Syntax.ttcons Syntax.tnil (Syntax.ttcons (Syntax.tcons (Syntax.tyInt Syntax.w16) Syntax.tnil) (Syntax.ttcons (Syntax.tcons (Syntax.tyInt Syntax.w16) Syntax.tnil) Syntax.ttnil)))) (Syntax.tcons (Syntax.tyInt Syntax.w64) (Syntax.tcons (Syntax.tyInt Syntax.w64) Syntax.tnil)))) (Syntax.tcons (Syntax.tyStruct (List._∷_ 112 (List._∷_ 111 (List._∷_ 115 (List._∷_ 105 (List._∷_ 116 (List._∷_ 105 (List._∷_ 111 (List._∷_ 110 (List._∷_ 58 (List._∷_ 58 (List._∷_ 80 (List._∷_ 111 (List._∷_ 115 (List._∷_ 105 (List._∷_ 116 (List._∷_ 105 (List._∷_ 111 (List._∷_ 110 (List._∷_ 83 (List._∷_ 121 (List._∷_ 110 (List._∷_ 116 (List._∷_ 97 (List._∷_ 120 List.[])))))))))))))))))))))))) (Syntax.tcons Syntax.tyBool (Syntax.tcons Syntax.tyBool (Syntax.tcons (Syntax.tyInt Syntax.w64) (Syntax.tcons (Syntax.tyInt Syntax.w64) (Syntax.tcons (Syntax.tyInt Syntax.w64) (Syntax.tcons Syntax.tyBool Syntax.tnil))))))) Syntax.tnil)))) (List._∷_ (9, Rows.any-gone (Syntax.tyStruct (List._∷_ 114 (List._∷_ 117 (List._∷_ 108 (List._∷_ 101 (List._∷_ 115 (List._∷_ 58 (List._∷_ 58 (List._∷_ 65 (List._∷_ 110 (List._∷_ 115 (List._∷_ 119 (List._∷_ 101 (List._∷_ 114 List.[]))))))))))))) (Syntax.tcons (Syntax.tyEnum (List._∷_ 114 (List._∷_ 117 (List._∷_ 108 (List._∷_ 101 (List._∷_ 115 (List._∷_ 58 (List._∷_ 58 (List._∷_ 79 (List._∷_ 117 (List._∷_ 116 (List._∷_ 99 (List._∷_ 111 (List._∷_ 109 (List._∷_ 101 List.[])))))))))))))) (Syntax.ttcons Syntax.tnil (Syntax.ttcons (Syntax.tcons (Syntax.tyInt Syntax.w16) Syntax.tnil) (Syntax.ttcons (Syntax.tcons (Syntax.tyInt Syntax.w16) Syntax.tnil) Syntax.ttnil)))) (Syntax.tcons (Syntax.tyInt Syntax.w64) (Syntax.tcons (Syntax.tyInt Syntax.w64) Syntax.tnil))))) (List._∷_ (10, Rows.any-gone (Syntax.tyEnum (List._∷_ 114 (List._∷_ 117 (List._∷_ 108 (List._∷_ 101 (List._∷_ 115 (List._∷_ 58 (List._∷_ 58 (List._∷_ 79 (List._∷_ 117 (List._∷_ 116 (List._∷_ 99 (List._∷_ 111 (List._∷_ 109 (List._∷_ 101 List.[])))))))))))))) (Syntax.ttcons Syntax.tnil (Syntax.ttcons (Syntax.tcons (Syntax.tyInt Syntax.w16) Syntax.tnil) (Syntax.ttcons (Syntax.tcons (Syntax.tyInt Syntax.w16) Syntax.tnil) Syntax.ttnil))))) (List._∷_ (11, Rows.any-gone (Syntax.tyStruct (List._∷_ 112 (List._∷_ 111 (List._∷_ 115 (List._∷_ 105 (List._∷_ 116 (List._∷_ 105 (List._∷_ 111 (List._∷_ 110 (List._∷_ 58 (List._∷_ 58 (List._∷_ 80 (List._∷_ 111 (List._∷_ 115 (List._∷_ 105 (List._∷_ 116 (List._∷_ 105 (List._∷_ 111 (List._∷_ 110 (List._∷_ 83 (List._∷_ 121 (List._∷_ 110 (List._∷_ 116 (List._∷_ 97 (List._∷_ 120 List.[])))))))))))))))))))))))) (Syntax.tcons Syntax.tyBool (Syntax.tcons Syntax.tyBool (Syntax.tcons (Syntax.tyInt Syntax.w64) (Syntax.tcons (Syntax.tyInt Syntax.w64) (Syntax.tcons (Syntax.tyInt Syntax.w64) (Syntax.tcons Syntax.tyBool Syntax.tnil)))))))) (List._∷_ (12, Rows.any-gone (Syntax.tyRef Syntax.erased Syntax.imm Lent.refS)) (List._∷_ (13, Rows.any-gone (Syntax.tyRef Syntax.erased Syntax.mut (Syntax.tyInt Syntax.w64))) (List._∷_ (14, Rows.any-gone (Syntax.tyStruct (List._∷_ 38 (List._∷_ 91 (List._∷_ 93 List.[]))) (Syntax.tcons (Syntax.tyRef Syntax.erased Syntax.mut (Syntax.tyInt Syntax.w64)) (Syntax.tcons (Syntax.tyInt Syntax.w64) Syntax.tnil)))) (List._∷_ (15, Rows.any-gone Syntax.tyBool) List.[])))))))))))))))
+t5 = List._∷_ (0, Rows.any-gone (Syntax.tyStruct (List._∷_ 114 (List._∷_ 117 (List._∷_ 108 (List._∷_ 101 (List._∷_ 115 (List._∷_ 58 (List._∷_ 58 (List._∷_ 65 (List._∷_ 110 (List._∷_ 115 (List._∷_ 119 (List._∷_ 101 (List._∷_ 114 List.[]))))))))))))) (Syntax.tcons (Syntax.tyEnum (List._∷_ 114 (List._∷_ 117 (List._∷_ 108 (List._∷_ 101 (List._∷_ 115 (List._∷_ 58 (List._∷_ 58 (List._∷_ 79 (List._∷_ 117 (List._∷_ 116 (List._∷_ 99 (List._∷_ 111 (List._∷_ 109 (List._∷_ 101 List.[])))))))))))))) (Syntax.ttcons Syntax.tnil (Syntax.ttcons (Syntax.tcons (Syntax.tyInt Syntax.w16) Syntax.tnil) (Syntax.ttcons (Syntax.tcons (Syntax.tyInt Syntax.w16) Syntax.tnil) Syntax.ttnil)))) (Syntax.tcons (Syntax.tyInt Syntax.w64) (Syntax.tcons (Syntax.tyInt Syntax.w64) Syntax.tnil))))) (List._∷_ (1, Rows.sslice (Referent.rtF (Referent.fInt Syntax.w8)) (Syntax.tyRef (Syntax.named 0) Syntax.imm (Syntax.tyInt Syntax.w8)) 0) (List._∷_ (2, Rows.sc-here (Row.sInt Syntax.w64)) (List._∷_ (3, Rows.sc-here Row.sBool) (List._∷_ (4, Mut.mslice (Referent.rtF (Referent.fInt Syntax.w64)) (Syntax.tyRef (Syntax.named 1) Syntax.mut (Syntax.tyInt Syntax.w64)) 1) (List._∷_ (5, Reshare.mref-owedS Lent.R (Syntax.tyRef (Syntax.named 2) Syntax.mut Lent.refS) 2 3 Row.off) (List._∷_ (6, Rows.sc-here Row.sBool) (List._∷_ (7, Rows.whole (Declared'.row PositionSyntax.the-type)) (List._∷_ (8, Rows.any-gone (Syntax.tyStruct (List._∷_ 112 (List._∷_ 111 (List._∷_ 115 (List._∷_ 105 (List._∷_ 116 (List._∷_ 105 (List._∷_ 111 (List._∷_ 110 (List._∷_ 95 (List._∷_ 97 (List._∷_ 108 (List._∷_ 111 (List._∷_ 110 (List._∷_ 101 (List._∷_ 58 (List._∷_ 58 (List._∷_ 80 (List._∷_ 111 (List._∷_ 115 (List._∷_ 105 (List._∷_ 116 (List._∷_ 105 (List._∷_ 111 (List._∷_ 110 (List._∷_ 65 (List._∷_ 110 (List._∷_ 115 (List._∷_ 119 (List._∷_ 101 (List._∷_ 114 List.[])))))))))))))))))))))))))))))) (Syntax.tcons (Syntax.tyStruct (List._∷_ 114 (List._∷_ 117 (List._∷_ 108 (List._∷_ 101 (List._∷_ 115 (List._∷_ 58 (List._∷_ 58 (List._∷_ 65 (List._∷_ 110 (List._∷_ 115 (List._∷_ 119 (List._∷_ 101 (List._∷_ 114 List.[]))))))))))))) (Syntax.tcons (Syntax.tyEnum (List._∷_ 114 (List._∷_ 117 (List._∷_ 108 (List._∷_ 101 (List._∷_ 115 (List._∷_ 58 (List._∷_ 58 (List._∷_ 79 (List._∷_ 117 (List._∷_ 116 (List._∷_ 99 (List._∷_ 111 (List._∷_ 109 (List._∷_ 101 List.[])))))))))))))) (Syntax.ttcons Syntax.tnil (Syntax.ttcons (Syntax.tcons (Syntax.tyInt Syntax.w16) Syntax.tnil) (Syntax.ttcons (Syntax.tcons (Syntax.tyInt Syntax.w16) Syntax.tnil) Syntax.ttnil)))) (Syntax.tcons (Syntax.tyInt Syntax.w64) (Syntax.tcons (Syntax.tyInt Syntax.w64) Syntax.tnil)))) (Syntax.tcons (Syntax.tyStruct (List._∷_ 112 (List._∷_ 111 (List._∷_ 115 (List._∷_ 105 (List._∷_ 116 (List._∷_ 105 (List._∷_ 111 (List._∷_ 110 (List._∷_ 58 (List._∷_ 58 (List._∷_ 80 (List._∷_ 111 (List._∷_ 115 (List._∷_ 105 (List._∷_ 116 (List._∷_ 105 (List._∷_ 111 (List._∷_ 110 (List._∷_ 83 (List._∷_ 121 (List._∷_ 110 (List._∷_ 116 (List._∷_ 97 (List._∷_ 120 List.[])))))))))))))))))))))))) (Syntax.tcons Syntax.tyBool (Syntax.tcons Syntax.tyBool (Syntax.tcons (Syntax.tyInt Syntax.w64) (Syntax.tcons (Syntax.tyInt Syntax.w64) (Syntax.tcons (Syntax.tyInt Syntax.w64) (Syntax.tcons Syntax.tyBool Syntax.tnil))))))) Syntax.tnil)))) (List._∷_ (9, Rows.any-gone (Syntax.tyStruct (List._∷_ 114 (List._∷_ 117 (List._∷_ 108 (List._∷_ 101 (List._∷_ 115 (List._∷_ 58 (List._∷_ 58 (List._∷_ 65 (List._∷_ 110 (List._∷_ 115 (List._∷_ 119 (List._∷_ 101 (List._∷_ 114 List.[]))))))))))))) (Syntax.tcons (Syntax.tyEnum (List._∷_ 114 (List._∷_ 117 (List._∷_ 108 (List._∷_ 101 (List._∷_ 115 (List._∷_ 58 (List._∷_ 58 (List._∷_ 79 (List._∷_ 117 (List._∷_ 116 (List._∷_ 99 (List._∷_ 111 (List._∷_ 109 (List._∷_ 101 List.[])))))))))))))) (Syntax.ttcons Syntax.tnil (Syntax.ttcons (Syntax.tcons (Syntax.tyInt Syntax.w16) Syntax.tnil) (Syntax.ttcons (Syntax.tcons (Syntax.tyInt Syntax.w16) Syntax.tnil) Syntax.ttnil)))) (Syntax.tcons (Syntax.tyInt Syntax.w64) (Syntax.tcons (Syntax.tyInt Syntax.w64) Syntax.tnil))))) (List._∷_ (10, Rows.any-gone (Syntax.tyEnum (List._∷_ 114 (List._∷_ 117 (List._∷_ 108 (List._∷_ 101 (List._∷_ 115 (List._∷_ 58 (List._∷_ 58 (List._∷_ 79 (List._∷_ 117 (List._∷_ 116 (List._∷_ 99 (List._∷_ 111 (List._∷_ 109 (List._∷_ 101 List.[])))))))))))))) (Syntax.ttcons Syntax.tnil (Syntax.ttcons (Syntax.tcons (Syntax.tyInt Syntax.w16) Syntax.tnil) (Syntax.ttcons (Syntax.tcons (Syntax.tyInt Syntax.w16) Syntax.tnil) Syntax.ttnil))))) (List._∷_ (11, Rows.any-gone (Syntax.tyStruct (List._∷_ 112 (List._∷_ 111 (List._∷_ 115 (List._∷_ 105 (List._∷_ 116 (List._∷_ 105 (List._∷_ 111 (List._∷_ 110 (List._∷_ 58 (List._∷_ 58 (List._∷_ 80 (List._∷_ 111 (List._∷_ 115 (List._∷_ 105 (List._∷_ 116 (List._∷_ 105 (List._∷_ 111 (List._∷_ 110 (List._∷_ 83 (List._∷_ 121 (List._∷_ 110 (List._∷_ 116 (List._∷_ 97 (List._∷_ 120 List.[])))))))))))))))))))))))) (Syntax.tcons Syntax.tyBool (Syntax.tcons Syntax.tyBool (Syntax.tcons (Syntax.tyInt Syntax.w64) (Syntax.tcons (Syntax.tyInt Syntax.w64) (Syntax.tcons (Syntax.tyInt Syntax.w64) (Syntax.tcons Syntax.tyBool Syntax.tnil)))))))) (List._∷_ (12, Rows.any-gone (Syntax.tyRef Syntax.erased Syntax.imm Lent.refS)) (List._∷_ (13, Rows.any-gone (Syntax.tyRef Syntax.erased Syntax.mut (Syntax.tyInt Syntax.w64))) (List._∷_ (14, Rows.any-gone (Syntax.tyStruct (List._∷_ 38 (List._∷_ 91 (List._∷_ 93 List.[]))) (Syntax.tcons (Syntax.tyRef Syntax.erased Syntax.mut (Syntax.tyInt Syntax.w64)) (Syntax.tcons (Syntax.tyInt Syntax.w64) Syntax.tnil)))) (List._∷_ (15, Rows.any-gone Syntax.tyBool) List.[])))))))))))))))
 
 abbrev pub t6 : List.List Row.Entry
-t6 = List._∷_ (0, Rows.any-gone (Syntax.tyStruct (List._∷_ 114 (List._∷_ 117 (List._∷_ 108 (List._∷_ 101 (List._∷_ 115 (List._∷_ 58 (List._∷_ 58 (List._∷_ 65 (List._∷_ 110 (List._∷_ 115 (List._∷_ 119 (List._∷_ 101 (List._∷_ 114 List.[]))))))))))))) (Syntax.tcons (Syntax.tyEnum (List._∷_ 114 (List._∷_ 117 (List._∷_ 108 (List._∷_ 101 (List._∷_ 115 (List._∷_ 58 (List._∷_ 58 (List._∷_ 79 (List._∷_ 117 (List._∷_ 116 (List._∷_ 99 (List._∷_ 111 (List._∷_ 109 (List._∷_ 101 List.[])))))))))))))) (Syntax.ttcons Syntax.tnil (Syntax.ttcons (Syntax.tcons (Syntax.tyInt Syntax.w16) Syntax.tnil) (Syntax.ttcons (Syntax.tcons (Syntax.tyInt Syntax.w16) Syntax.tnil) Syntax.ttnil)))) (Syntax.tcons (Syntax.tyInt Syntax.w64) (Syntax.tcons (Syntax.tyInt Syntax.w64) Syntax.tnil))))) (List._∷_ (1, Rows.sslice (Referent.rtF (Referent.fInt Syntax.w8)) (Syntax.tyRef (Syntax.named 0) Syntax.imm (Syntax.tyInt Syntax.w8)) 0) (List._∷_ (2, Rows.sc-here (Row.sInt Syntax.w64)) (List._∷_ (3, Rows.sc-here Row.sBool) (List._∷_ (4, Mut.mslice (Referent.rtF (Referent.fInt Syntax.w64)) (Syntax.tyRef (Syntax.named 1) Syntax.mut (Syntax.tyInt Syntax.w64)) 1) (List._∷_ (5, Rows.mref Lent.R (Syntax.tyRef (Syntax.named 2) Syntax.mut Lent.refS) 2) (List._∷_ (6, Rows.sc-here Row.sBool) (List._∷_ (7, Rows.whole (Declared'.row PositionSyntax.the-type)) (List._∷_ (8, Rows.any-gone (Syntax.tyStruct (List._∷_ 112 (List._∷_ 111 (List._∷_ 115 (List._∷_ 105 (List._∷_ 116 (List._∷_ 105 (List._∷_ 111 (List._∷_ 110 (List._∷_ 58 (List._∷_ 58 (List._∷_ 80 (List._∷_ 111 (List._∷_ 115 (List._∷_ 105 (List._∷_ 116 (List._∷_ 105 (List._∷_ 111 (List._∷_ 110 (List._∷_ 65 (List._∷_ 110 (List._∷_ 115 (List._∷_ 119 (List._∷_ 101 (List._∷_ 114 List.[])))))))))))))))))))))))) (Syntax.tcons (Syntax.tyStruct (List._∷_ 114 (List._∷_ 117 (List._∷_ 108 (List._∷_ 101 (List._∷_ 115 (List._∷_ 58 (List._∷_ 58 (List._∷_ 65 (List._∷_ 110 (List._∷_ 115 (List._∷_ 119 (List._∷_ 101 (List._∷_ 114 List.[]))))))))))))) (Syntax.tcons (Syntax.tyEnum (List._∷_ 114 (List._∷_ 117 (List._∷_ 108 (List._∷_ 101 (List._∷_ 115 (List._∷_ 58 (List._∷_ 58 (List._∷_ 79 (List._∷_ 117 (List._∷_ 116 (List._∷_ 99 (List._∷_ 111 (List._∷_ 109 (List._∷_ 101 List.[])))))))))))))) (Syntax.ttcons Syntax.tnil (Syntax.ttcons (Syntax.tcons (Syntax.tyInt Syntax.w16) Syntax.tnil) (Syntax.ttcons (Syntax.tcons (Syntax.tyInt Syntax.w16) Syntax.tnil) Syntax.ttnil)))) (Syntax.tcons (Syntax.tyInt Syntax.w64) (Syntax.tcons (Syntax.tyInt Syntax.w64) Syntax.tnil)))) (Syntax.tcons (Syntax.tyStruct (List._∷_ 112 (List._∷_ 111 (List._∷_ 115 (List._∷_ 105 (List._∷_ 116 (List._∷_ 105 (List._∷_ 111 (List._∷_ 110 (List._∷_ 58 (List._∷_ 58 (List._∷_ 80 (List._∷_ 111 (List._∷_ 115 (List._∷_ 105 (List._∷_ 116 (List._∷_ 105 (List._∷_ 111 (List._∷_ 110 (List._∷_ 83 (List._∷_ 121 (List._∷_ 110 (List._∷_ 116 (List._∷_ 97 (List._∷_ 120 List.[])))))))))))))))))))))))) (Syntax.tcons Syntax.tyBool (Syntax.tcons Syntax.tyBool (Syntax.tcons (Syntax.tyInt Syntax.w64) (Syntax.tcons (Syntax.tyInt Syntax.w64) (Syntax.tcons (Syntax.tyInt Syntax.w64) (Syntax.tcons Syntax.tyBool Syntax.tnil))))))) Syntax.tnil)))) (List._∷_ (9, Rows.any-gone (Syntax.tyStruct (List._∷_ 114 (List._∷_ 117 (List._∷_ 108 (List._∷_ 101 (List._∷_ 115 (List._∷_ 58 (List._∷_ 58 (List._∷_ 65 (List._∷_ 110 (List._∷_ 115 (List._∷_ 119 (List._∷_ 101 (List._∷_ 114 List.[]))))))))))))) (Syntax.tcons (Syntax.tyEnum (List._∷_ 114 (List._∷_ 117 (List._∷_ 108 (List._∷_ 101 (List._∷_ 115 (List._∷_ 58 (List._∷_ 58 (List._∷_ 79 (List._∷_ 117 (List._∷_ 116 (List._∷_ 99 (List._∷_ 111 (List._∷_ 109 (List._∷_ 101 List.[])))))))))))))) (Syntax.ttcons Syntax.tnil (Syntax.ttcons (Syntax.tcons (Syntax.tyInt Syntax.w16) Syntax.tnil) (Syntax.ttcons (Syntax.tcons (Syntax.tyInt Syntax.w16) Syntax.tnil) Syntax.ttnil)))) (Syntax.tcons (Syntax.tyInt Syntax.w64) (Syntax.tcons (Syntax.tyInt Syntax.w64) Syntax.tnil))))) (List._∷_ (10, Rows.any-gone (Syntax.tyEnum (List._∷_ 114 (List._∷_ 117 (List._∷_ 108 (List._∷_ 101 (List._∷_ 115 (List._∷_ 58 (List._∷_ 58 (List._∷_ 79 (List._∷_ 117 (List._∷_ 116 (List._∷_ 99 (List._∷_ 111 (List._∷_ 109 (List._∷_ 101 List.[])))))))))))))) (Syntax.ttcons Syntax.tnil (Syntax.ttcons (Syntax.tcons (Syntax.tyInt Syntax.w16) Syntax.tnil) (Syntax.ttcons (Syntax.tcons (Syntax.tyInt Syntax.w16) Syntax.tnil) Syntax.ttnil))))) (List._∷_ (11, Rows.any-gone (Syntax.tyStruct (List._∷_ 112 (List._∷_ 111 (List._∷_ 115 (List._∷_ 105 (List._∷_ 116 (List._∷_ 105 (List._∷_ 111 (List._∷_ 110 (List._∷_ 58 (List._∷_ 58 (List._∷_ 80 (List._∷_ 111 (List._∷_ 115 (List._∷_ 105 (List._∷_ 116 (List._∷_ 105 (List._∷_ 111 (List._∷_ 110 (List._∷_ 83 (List._∷_ 121 (List._∷_ 110 (List._∷_ 116 (List._∷_ 97 (List._∷_ 120 List.[])))))))))))))))))))))))) (Syntax.tcons Syntax.tyBool (Syntax.tcons Syntax.tyBool (Syntax.tcons (Syntax.tyInt Syntax.w64) (Syntax.tcons (Syntax.tyInt Syntax.w64) (Syntax.tcons (Syntax.tyInt Syntax.w64) (Syntax.tcons Syntax.tyBool Syntax.tnil)))))))) (List._∷_ (12, Rows.any-gone (Syntax.tyRef Syntax.erased Syntax.imm Lent.refS)) (List._∷_ (13, Rows.any-gone (Syntax.tyRef Syntax.erased Syntax.mut (Syntax.tyInt Syntax.w64))) (List._∷_ (14, Rows.any-gone (Syntax.tyStruct (List._∷_ 38 (List._∷_ 91 (List._∷_ 93 List.[]))) (Syntax.tcons (Syntax.tyRef Syntax.erased Syntax.mut (Syntax.tyInt Syntax.w64)) (Syntax.tcons (Syntax.tyInt Syntax.w64) Syntax.tnil)))) (List._∷_ (15, Rows.any-gone Syntax.tyBool) List.[])))))))))))))))
+t6 = List._∷_ (0, Rows.any-gone (Syntax.tyStruct (List._∷_ 114 (List._∷_ 117 (List._∷_ 108 (List._∷_ 101 (List._∷_ 115 (List._∷_ 58 (List._∷_ 58 (List._∷_ 65 (List._∷_ 110 (List._∷_ 115 (List._∷_ 119 (List._∷_ 101 (List._∷_ 114 List.[]))))))))))))) (Syntax.tcons (Syntax.tyEnum (List._∷_ 114 (List._∷_ 117 (List._∷_ 108 (List._∷_ 101 (List._∷_ 115 (List._∷_ 58 (List._∷_ 58 (List._∷_ 79 (List._∷_ 117 (List._∷_ 116 (List._∷_ 99 (List._∷_ 111 (List._∷_ 109 (List._∷_ 101 List.[])))))))))))))) (Syntax.ttcons Syntax.tnil (Syntax.ttcons (Syntax.tcons (Syntax.tyInt Syntax.w16) Syntax.tnil) (Syntax.ttcons (Syntax.tcons (Syntax.tyInt Syntax.w16) Syntax.tnil) Syntax.ttnil)))) (Syntax.tcons (Syntax.tyInt Syntax.w64) (Syntax.tcons (Syntax.tyInt Syntax.w64) Syntax.tnil))))) (List._∷_ (1, Rows.sslice (Referent.rtF (Referent.fInt Syntax.w8)) (Syntax.tyRef (Syntax.named 0) Syntax.imm (Syntax.tyInt Syntax.w8)) 0) (List._∷_ (2, Rows.sc-here (Row.sInt Syntax.w64)) (List._∷_ (3, Rows.sc-here Row.sBool) (List._∷_ (4, Mut.mslice (Referent.rtF (Referent.fInt Syntax.w64)) (Syntax.tyRef (Syntax.named 1) Syntax.mut (Syntax.tyInt Syntax.w64)) 1) (List._∷_ (5, Rows.mref Lent.R (Syntax.tyRef (Syntax.named 2) Syntax.mut Lent.refS) 2) (List._∷_ (6, Rows.sc-here Row.sBool) (List._∷_ (7, Rows.whole (Declared'.row PositionSyntax.the-type)) (List._∷_ (8, Rows.any-gone (Syntax.tyStruct (List._∷_ 112 (List._∷_ 111 (List._∷_ 115 (List._∷_ 105 (List._∷_ 116 (List._∷_ 105 (List._∷_ 111 (List._∷_ 110 (List._∷_ 95 (List._∷_ 97 (List._∷_ 108 (List._∷_ 111 (List._∷_ 110 (List._∷_ 101 (List._∷_ 58 (List._∷_ 58 (List._∷_ 80 (List._∷_ 111 (List._∷_ 115 (List._∷_ 105 (List._∷_ 116 (List._∷_ 105 (List._∷_ 111 (List._∷_ 110 (List._∷_ 65 (List._∷_ 110 (List._∷_ 115 (List._∷_ 119 (List._∷_ 101 (List._∷_ 114 List.[])))))))))))))))))))))))))))))) (Syntax.tcons (Syntax.tyStruct (List._∷_ 114 (List._∷_ 117 (List._∷_ 108 (List._∷_ 101 (List._∷_ 115 (List._∷_ 58 (List._∷_ 58 (List._∷_ 65 (List._∷_ 110 (List._∷_ 115 (List._∷_ 119 (List._∷_ 101 (List._∷_ 114 List.[]))))))))))))) (Syntax.tcons (Syntax.tyEnum (List._∷_ 114 (List._∷_ 117 (List._∷_ 108 (List._∷_ 101 (List._∷_ 115 (List._∷_ 58 (List._∷_ 58 (List._∷_ 79 (List._∷_ 117 (List._∷_ 116 (List._∷_ 99 (List._∷_ 111 (List._∷_ 109 (List._∷_ 101 List.[])))))))))))))) (Syntax.ttcons Syntax.tnil (Syntax.ttcons (Syntax.tcons (Syntax.tyInt Syntax.w16) Syntax.tnil) (Syntax.ttcons (Syntax.tcons (Syntax.tyInt Syntax.w16) Syntax.tnil) Syntax.ttnil)))) (Syntax.tcons (Syntax.tyInt Syntax.w64) (Syntax.tcons (Syntax.tyInt Syntax.w64) Syntax.tnil)))) (Syntax.tcons (Syntax.tyStruct (List._∷_ 112 (List._∷_ 111 (List._∷_ 115 (List._∷_ 105 (List._∷_ 116 (List._∷_ 105 (List._∷_ 111 (List._∷_ 110 (List._∷_ 58 (List._∷_ 58 (List._∷_ 80 (List._∷_ 111 (List._∷_ 115 (List._∷_ 105 (List._∷_ 116 (List._∷_ 105 (List._∷_ 111 (List._∷_ 110 (List._∷_ 83 (List._∷_ 121 (List._∷_ 110 (List._∷_ 116 (List._∷_ 97 (List._∷_ 120 List.[])))))))))))))))))))))))) (Syntax.tcons Syntax.tyBool (Syntax.tcons Syntax.tyBool (Syntax.tcons (Syntax.tyInt Syntax.w64) (Syntax.tcons (Syntax.tyInt Syntax.w64) (Syntax.tcons (Syntax.tyInt Syntax.w64) (Syntax.tcons Syntax.tyBool Syntax.tnil))))))) Syntax.tnil)))) (List._∷_ (9, Rows.any-gone (Syntax.tyStruct (List._∷_ 114 (List._∷_ 117 (List._∷_ 108 (List._∷_ 101 (List._∷_ 115 (List._∷_ 58 (List._∷_ 58 (List._∷_ 65 (List._∷_ 110 (List._∷_ 115 (List._∷_ 119 (List._∷_ 101 (List._∷_ 114 List.[]))))))))))))) (Syntax.tcons (Syntax.tyEnum (List._∷_ 114 (List._∷_ 117 (List._∷_ 108 (List._∷_ 101 (List._∷_ 115 (List._∷_ 58 (List._∷_ 58 (List._∷_ 79 (List._∷_ 117 (List._∷_ 116 (List._∷_ 99 (List._∷_ 111 (List._∷_ 109 (List._∷_ 101 List.[])))))))))))))) (Syntax.ttcons Syntax.tnil (Syntax.ttcons (Syntax.tcons (Syntax.tyInt Syntax.w16) Syntax.tnil) (Syntax.ttcons (Syntax.tcons (Syntax.tyInt Syntax.w16) Syntax.tnil) Syntax.ttnil)))) (Syntax.tcons (Syntax.tyInt Syntax.w64) (Syntax.tcons (Syntax.tyInt Syntax.w64) Syntax.tnil))))) (List._∷_ (10, Rows.any-gone (Syntax.tyEnum (List._∷_ 114 (List._∷_ 117 (List._∷_ 108 (List._∷_ 101 (List._∷_ 115 (List._∷_ 58 (List._∷_ 58 (List._∷_ 79 (List._∷_ 117 (List._∷_ 116 (List._∷_ 99 (List._∷_ 111 (List._∷_ 109 (List._∷_ 101 List.[])))))))))))))) (Syntax.ttcons Syntax.tnil (Syntax.ttcons (Syntax.tcons (Syntax.tyInt Syntax.w16) Syntax.tnil) (Syntax.ttcons (Syntax.tcons (Syntax.tyInt Syntax.w16) Syntax.tnil) Syntax.ttnil))))) (List._∷_ (11, Rows.any-gone (Syntax.tyStruct (List._∷_ 112 (List._∷_ 111 (List._∷_ 115 (List._∷_ 105 (List._∷_ 116 (List._∷_ 105 (List._∷_ 111 (List._∷_ 110 (List._∷_ 58 (List._∷_ 58 (List._∷_ 80 (List._∷_ 111 (List._∷_ 115 (List._∷_ 105 (List._∷_ 116 (List._∷_ 105 (List._∷_ 111 (List._∷_ 110 (List._∷_ 83 (List._∷_ 121 (List._∷_ 110 (List._∷_ 116 (List._∷_ 97 (List._∷_ 120 List.[])))))))))))))))))))))))) (Syntax.tcons Syntax.tyBool (Syntax.tcons Syntax.tyBool (Syntax.tcons (Syntax.tyInt Syntax.w64) (Syntax.tcons (Syntax.tyInt Syntax.w64) (Syntax.tcons (Syntax.tyInt Syntax.w64) (Syntax.tcons Syntax.tyBool Syntax.tnil)))))))) (List._∷_ (12, Rows.any-gone (Syntax.tyRef Syntax.erased Syntax.imm Lent.refS)) (List._∷_ (13, Rows.any-gone (Syntax.tyRef Syntax.erased Syntax.mut (Syntax.tyInt Syntax.w64))) (List._∷_ (14, Rows.any-gone (Syntax.tyStruct (List._∷_ 38 (List._∷_ 91 (List._∷_ 93 List.[]))) (Syntax.tcons (Syntax.tyRef Syntax.erased Syntax.mut (Syntax.tyInt Syntax.w64)) (Syntax.tcons (Syntax.tyInt Syntax.w64) Syntax.tnil)))) (List._∷_ (15, Rows.any-gone Syntax.tyBool) List.[])))))))))))))))
 
 abbrev pub t7 : List.List Row.Entry
-t7 = List._∷_ (0, Rows.any-gone (Syntax.tyStruct (List._∷_ 114 (List._∷_ 117 (List._∷_ 108 (List._∷_ 101 (List._∷_ 115 (List._∷_ 58 (List._∷_ 58 (List._∷_ 65 (List._∷_ 110 (List._∷_ 115 (List._∷_ 119 (List._∷_ 101 (List._∷_ 114 List.[]))))))))))))) (Syntax.tcons (Syntax.tyEnum (List._∷_ 114 (List._∷_ 117 (List._∷_ 108 (List._∷_ 101 (List._∷_ 115 (List._∷_ 58 (List._∷_ 58 (List._∷_ 79 (List._∷_ 117 (List._∷_ 116 (List._∷_ 99 (List._∷_ 111 (List._∷_ 109 (List._∷_ 101 List.[])))))))))))))) (Syntax.ttcons Syntax.tnil (Syntax.ttcons (Syntax.tcons (Syntax.tyInt Syntax.w16) Syntax.tnil) (Syntax.ttcons (Syntax.tcons (Syntax.tyInt Syntax.w16) Syntax.tnil) Syntax.ttnil)))) (Syntax.tcons (Syntax.tyInt Syntax.w64) (Syntax.tcons (Syntax.tyInt Syntax.w64) Syntax.tnil))))) (List._∷_ (1, Rows.sslice (Referent.rtF (Referent.fInt Syntax.w8)) (Syntax.tyRef (Syntax.named 0) Syntax.imm (Syntax.tyInt Syntax.w8)) 0) (List._∷_ (2, Rows.sc-here (Row.sInt Syntax.w64)) (List._∷_ (3, Rows.sc-here Row.sBool) (List._∷_ (4, Relend.mslice-owed (Referent.rtF (Referent.fInt Syntax.w64)) (Syntax.tyRef (Syntax.named 1) Syntax.mut (Syntax.tyInt Syntax.w64)) 1 4 Row.off) (List._∷_ (5, Rows.mref Lent.R (Syntax.tyRef (Syntax.named 2) Syntax.mut Lent.refS) 2) (List._∷_ (6, Rows.sc-here Row.sBool) (List._∷_ (7, Rows.whole (Declared'.row PositionSyntax.the-type)) (List._∷_ (8, Rows.any-gone (Syntax.tyStruct (List._∷_ 112 (List._∷_ 111 (List._∷_ 115 (List._∷_ 105 (List._∷_ 116 (List._∷_ 105 (List._∷_ 111 (List._∷_ 110 (List._∷_ 58 (List._∷_ 58 (List._∷_ 80 (List._∷_ 111 (List._∷_ 115 (List._∷_ 105 (List._∷_ 116 (List._∷_ 105 (List._∷_ 111 (List._∷_ 110 (List._∷_ 65 (List._∷_ 110 (List._∷_ 115 (List._∷_ 119 (List._∷_ 101 (List._∷_ 114 List.[])))))))))))))))))))))))) (Syntax.tcons (Syntax.tyStruct (List._∷_ 114 (List._∷_ 117 (List._∷_ 108 (List._∷_ 101 (List._∷_ 115 (List._∷_ 58 (List._∷_ 58 (List._∷_ 65 (List._∷_ 110 (List._∷_ 115 (List._∷_ 119 (List._∷_ 101 (List._∷_ 114 List.[]))))))))))))) (Syntax.tcons (Syntax.tyEnum (List._∷_ 114 (List._∷_ 117 (List._∷_ 108 (List._∷_ 101 (List._∷_ 115 (List._∷_ 58 (List._∷_ 58 (List._∷_ 79 (List._∷_ 117 (List._∷_ 116 (List._∷_ 99 (List._∷_ 111 (List._∷_ 109 (List._∷_ 101 List.[])))))))))))))) (Syntax.ttcons Syntax.tnil (Syntax.ttcons (Syntax.tcons (Syntax.tyInt Syntax.w16) Syntax.tnil) (Syntax.ttcons (Syntax.tcons (Syntax.tyInt Syntax.w16) Syntax.tnil) Syntax.ttnil)))) (Syntax.tcons (Syntax.tyInt Syntax.w64) (Syntax.tcons (Syntax.tyInt Syntax.w64) Syntax.tnil)))) (Syntax.tcons (Syntax.tyStruct (List._∷_ 112 (List._∷_ 111 (List._∷_ 115 (List._∷_ 105 (List._∷_ 116 (List._∷_ 105 (List._∷_ 111 (List._∷_ 110 (List._∷_ 58 (List._∷_ 58 (List._∷_ 80 (List._∷_ 111 (List._∷_ 115 (List._∷_ 105 (List._∷_ 116 (List._∷_ 105 (List._∷_ 111 (List._∷_ 110 (List._∷_ 83 (List._∷_ 121 (List._∷_ 110 (List._∷_ 116 (List._∷_ 97 (List._∷_ 120 List.[])))))))))))))))))))))))) (Syntax.tcons Syntax.tyBool (Syntax.tcons Syntax.tyBool (Syntax.tcons (Syntax.tyInt Syntax.w64) (Syntax.tcons (Syntax.tyInt Syntax.w64) (Syntax.tcons (Syntax.tyInt Syntax.w64) (Syntax.tcons Syntax.tyBool Syntax.tnil))))))) Syntax.tnil)))) (List._∷_ (9, Rows.any-gone (Syntax.tyStruct (List._∷_ 114 (List._∷_ 117 (List._∷_ 108 (List._∷_ 101 (List._∷_ 115 (List._∷_ 58 (List._∷_ 58 (List._∷_ 65 (List._∷_ 110 (List._∷_ 115 (List._∷_ 119 (List._∷_ 101 (List._∷_ 114 List.[]))))))))))))) (Syntax.tcons (Syntax.tyEnum (List._∷_ 114 (List._∷_ 117 (List._∷_ 108 (List._∷_ 101 (List._∷_ 115 (List._∷_ 58 (List._∷_ 58 (List._∷_ 79 (List._∷_ 117 (List._∷_ 116 (List._∷_ 99 (List._∷_ 111 (List._∷_ 109 (List._∷_ 101 List.[])))))))))))))) (Syntax.ttcons Syntax.tnil (Syntax.ttcons (Syntax.tcons (Syntax.tyInt Syntax.w16) Syntax.tnil) (Syntax.ttcons (Syntax.tcons (Syntax.tyInt Syntax.w16) Syntax.tnil) Syntax.ttnil)))) (Syntax.tcons (Syntax.tyInt Syntax.w64) (Syntax.tcons (Syntax.tyInt Syntax.w64) Syntax.tnil))))) (List._∷_ (10, Rows.any-gone (Syntax.tyEnum (List._∷_ 114 (List._∷_ 117 (List._∷_ 108 (List._∷_ 101 (List._∷_ 115 (List._∷_ 58 (List._∷_ 58 (List._∷_ 79 (List._∷_ 117 (List._∷_ 116 (List._∷_ 99 (List._∷_ 111 (List._∷_ 109 (List._∷_ 101 List.[])))))))))))))) (Syntax.ttcons Syntax.tnil (Syntax.ttcons (Syntax.tcons (Syntax.tyInt Syntax.w16) Syntax.tnil) (Syntax.ttcons (Syntax.tcons (Syntax.tyInt Syntax.w16) Syntax.tnil) Syntax.ttnil))))) (List._∷_ (11, Rows.any-gone (Syntax.tyStruct (List._∷_ 112 (List._∷_ 111 (List._∷_ 115 (List._∷_ 105 (List._∷_ 116 (List._∷_ 105 (List._∷_ 111 (List._∷_ 110 (List._∷_ 58 (List._∷_ 58 (List._∷_ 80 (List._∷_ 111 (List._∷_ 115 (List._∷_ 105 (List._∷_ 116 (List._∷_ 105 (List._∷_ 111 (List._∷_ 110 (List._∷_ 83 (List._∷_ 121 (List._∷_ 110 (List._∷_ 116 (List._∷_ 97 (List._∷_ 120 List.[])))))))))))))))))))))))) (Syntax.tcons Syntax.tyBool (Syntax.tcons Syntax.tyBool (Syntax.tcons (Syntax.tyInt Syntax.w64) (Syntax.tcons (Syntax.tyInt Syntax.w64) (Syntax.tcons (Syntax.tyInt Syntax.w64) (Syntax.tcons Syntax.tyBool Syntax.tnil)))))))) (List._∷_ (12, Rows.any-gone (Syntax.tyRef Syntax.erased Syntax.imm Lent.refS)) (List._∷_ (13, Relend.msptr (Referent.rtF (Referent.fInt Syntax.w64)) (Syntax.tyRef Syntax.erased Syntax.mut (Syntax.tyInt Syntax.w64)) 4) (List._∷_ (14, Rows.any-gone (Syntax.tyStruct (List._∷_ 38 (List._∷_ 91 (List._∷_ 93 List.[]))) (Syntax.tcons (Syntax.tyRef Syntax.erased Syntax.mut (Syntax.tyInt Syntax.w64)) (Syntax.tcons (Syntax.tyInt Syntax.w64) Syntax.tnil)))) (List._∷_ (15, Rows.any-gone Syntax.tyBool) List.[])))))))))))))))
+t7 = List._∷_ (0, Rows.any-gone (Syntax.tyStruct (List._∷_ 114 (List._∷_ 117 (List._∷_ 108 (List._∷_ 101 (List._∷_ 115 (List._∷_ 58 (List._∷_ 58 (List._∷_ 65 (List._∷_ 110 (List._∷_ 115 (List._∷_ 119 (List._∷_ 101 (List._∷_ 114 List.[]))))))))))))) (Syntax.tcons (Syntax.tyEnum (List._∷_ 114 (List._∷_ 117 (List._∷_ 108 (List._∷_ 101 (List._∷_ 115 (List._∷_ 58 (List._∷_ 58 (List._∷_ 79 (List._∷_ 117 (List._∷_ 116 (List._∷_ 99 (List._∷_ 111 (List._∷_ 109 (List._∷_ 101 List.[])))))))))))))) (Syntax.ttcons Syntax.tnil (Syntax.ttcons (Syntax.tcons (Syntax.tyInt Syntax.w16) Syntax.tnil) (Syntax.ttcons (Syntax.tcons (Syntax.tyInt Syntax.w16) Syntax.tnil) Syntax.ttnil)))) (Syntax.tcons (Syntax.tyInt Syntax.w64) (Syntax.tcons (Syntax.tyInt Syntax.w64) Syntax.tnil))))) (List._∷_ (1, Rows.sslice (Referent.rtF (Referent.fInt Syntax.w8)) (Syntax.tyRef (Syntax.named 0) Syntax.imm (Syntax.tyInt Syntax.w8)) 0) (List._∷_ (2, Rows.sc-here (Row.sInt Syntax.w64)) (List._∷_ (3, Rows.sc-here Row.sBool) (List._∷_ (4, Relend.mslice-owed (Referent.rtF (Referent.fInt Syntax.w64)) (Syntax.tyRef (Syntax.named 1) Syntax.mut (Syntax.tyInt Syntax.w64)) 1 4 Row.off) (List._∷_ (5, Rows.mref Lent.R (Syntax.tyRef (Syntax.named 2) Syntax.mut Lent.refS) 2) (List._∷_ (6, Rows.sc-here Row.sBool) (List._∷_ (7, Rows.whole (Declared'.row PositionSyntax.the-type)) (List._∷_ (8, Rows.any-gone (Syntax.tyStruct (List._∷_ 112 (List._∷_ 111 (List._∷_ 115 (List._∷_ 105 (List._∷_ 116 (List._∷_ 105 (List._∷_ 111 (List._∷_ 110 (List._∷_ 95 (List._∷_ 97 (List._∷_ 108 (List._∷_ 111 (List._∷_ 110 (List._∷_ 101 (List._∷_ 58 (List._∷_ 58 (List._∷_ 80 (List._∷_ 111 (List._∷_ 115 (List._∷_ 105 (List._∷_ 116 (List._∷_ 105 (List._∷_ 111 (List._∷_ 110 (List._∷_ 65 (List._∷_ 110 (List._∷_ 115 (List._∷_ 119 (List._∷_ 101 (List._∷_ 114 List.[])))))))))))))))))))))))))))))) (Syntax.tcons (Syntax.tyStruct (List._∷_ 114 (List._∷_ 117 (List._∷_ 108 (List._∷_ 101 (List._∷_ 115 (List._∷_ 58 (List._∷_ 58 (List._∷_ 65 (List._∷_ 110 (List._∷_ 115 (List._∷_ 119 (List._∷_ 101 (List._∷_ 114 List.[]))))))))))))) (Syntax.tcons (Syntax.tyEnum (List._∷_ 114 (List._∷_ 117 (List._∷_ 108 (List._∷_ 101 (List._∷_ 115 (List._∷_ 58 (List._∷_ 58 (List._∷_ 79 (List._∷_ 117 (List._∷_ 116 (List._∷_ 99 (List._∷_ 111 (List._∷_ 109 (List._∷_ 101 List.[])))))))))))))) (Syntax.ttcons Syntax.tnil (Syntax.ttcons (Syntax.tcons (Syntax.tyInt Syntax.w16) Syntax.tnil) (Syntax.ttcons (Syntax.tcons (Syntax.tyInt Syntax.w16) Syntax.tnil) Syntax.ttnil)))) (Syntax.tcons (Syntax.tyInt Syntax.w64) (Syntax.tcons (Syntax.tyInt Syntax.w64) Syntax.tnil)))) (Syntax.tcons (Syntax.tyStruct (List._∷_ 112 (List._∷_ 111 (List._∷_ 115 (List._∷_ 105 (List._∷_ 116 (List._∷_ 105 (List._∷_ 111 (List._∷_ 110 (List._∷_ 58 (List._∷_ 58 (List._∷_ 80 (List._∷_ 111 (List._∷_ 115 (List._∷_ 105 (List._∷_ 116 (List._∷_ 105 (List._∷_ 111 (List._∷_ 110 (List._∷_ 83 (List._∷_ 121 (List._∷_ 110 (List._∷_ 116 (List._∷_ 97 (List._∷_ 120 List.[])))))))))))))))))))))))) (Syntax.tcons Syntax.tyBool (Syntax.tcons Syntax.tyBool (Syntax.tcons (Syntax.tyInt Syntax.w64) (Syntax.tcons (Syntax.tyInt Syntax.w64) (Syntax.tcons (Syntax.tyInt Syntax.w64) (Syntax.tcons Syntax.tyBool Syntax.tnil))))))) Syntax.tnil)))) (List._∷_ (9, Rows.any-gone (Syntax.tyStruct (List._∷_ 114 (List._∷_ 117 (List._∷_ 108 (List._∷_ 101 (List._∷_ 115 (List._∷_ 58 (List._∷_ 58 (List._∷_ 65 (List._∷_ 110 (List._∷_ 115 (List._∷_ 119 (List._∷_ 101 (List._∷_ 114 List.[]))))))))))))) (Syntax.tcons (Syntax.tyEnum (List._∷_ 114 (List._∷_ 117 (List._∷_ 108 (List._∷_ 101 (List._∷_ 115 (List._∷_ 58 (List._∷_ 58 (List._∷_ 79 (List._∷_ 117 (List._∷_ 116 (List._∷_ 99 (List._∷_ 111 (List._∷_ 109 (List._∷_ 101 List.[])))))))))))))) (Syntax.ttcons Syntax.tnil (Syntax.ttcons (Syntax.tcons (Syntax.tyInt Syntax.w16) Syntax.tnil) (Syntax.ttcons (Syntax.tcons (Syntax.tyInt Syntax.w16) Syntax.tnil) Syntax.ttnil)))) (Syntax.tcons (Syntax.tyInt Syntax.w64) (Syntax.tcons (Syntax.tyInt Syntax.w64) Syntax.tnil))))) (List._∷_ (10, Rows.any-gone (Syntax.tyEnum (List._∷_ 114 (List._∷_ 117 (List._∷_ 108 (List._∷_ 101 (List._∷_ 115 (List._∷_ 58 (List._∷_ 58 (List._∷_ 79 (List._∷_ 117 (List._∷_ 116 (List._∷_ 99 (List._∷_ 111 (List._∷_ 109 (List._∷_ 101 List.[])))))))))))))) (Syntax.ttcons Syntax.tnil (Syntax.ttcons (Syntax.tcons (Syntax.tyInt Syntax.w16) Syntax.tnil) (Syntax.ttcons (Syntax.tcons (Syntax.tyInt Syntax.w16) Syntax.tnil) Syntax.ttnil))))) (List._∷_ (11, Rows.any-gone (Syntax.tyStruct (List._∷_ 112 (List._∷_ 111 (List._∷_ 115 (List._∷_ 105 (List._∷_ 116 (List._∷_ 105 (List._∷_ 111 (List._∷_ 110 (List._∷_ 58 (List._∷_ 58 (List._∷_ 80 (List._∷_ 111 (List._∷_ 115 (List._∷_ 105 (List._∷_ 116 (List._∷_ 105 (List._∷_ 111 (List._∷_ 110 (List._∷_ 83 (List._∷_ 121 (List._∷_ 110 (List._∷_ 116 (List._∷_ 97 (List._∷_ 120 List.[])))))))))))))))))))))))) (Syntax.tcons Syntax.tyBool (Syntax.tcons Syntax.tyBool (Syntax.tcons (Syntax.tyInt Syntax.w64) (Syntax.tcons (Syntax.tyInt Syntax.w64) (Syntax.tcons (Syntax.tyInt Syntax.w64) (Syntax.tcons Syntax.tyBool Syntax.tnil)))))))) (List._∷_ (12, Rows.any-gone (Syntax.tyRef Syntax.erased Syntax.imm Lent.refS)) (List._∷_ (13, Relend.msptr (Referent.rtF (Referent.fInt Syntax.w64)) (Syntax.tyRef Syntax.erased Syntax.mut (Syntax.tyInt Syntax.w64)) 4) (List._∷_ (14, Rows.any-gone (Syntax.tyStruct (List._∷_ 38 (List._∷_ 91 (List._∷_ 93 List.[]))) (Syntax.tcons (Syntax.tyRef Syntax.erased Syntax.mut (Syntax.tyInt Syntax.w64)) (Syntax.tcons (Syntax.tyInt Syntax.w64) Syntax.tnil)))) (List._∷_ (15, Rows.any-gone Syntax.tyBool) List.[])))))))))))))))
 
 abbrev pub t8 : List.List Row.Entry
-t8 = List._∷_ (0, Rows.any-gone (Syntax.tyStruct (List._∷_ 114 (List._∷_ 117 (List._∷_ 108 (List._∷_ 101 (List._∷_ 115 (List._∷_ 58 (List._∷_ 58 (List._∷_ 65 (List._∷_ 110 (List._∷_ 115 (List._∷_ 119 (List._∷_ 101 (List._∷_ 114 List.[]))))))))))))) (Syntax.tcons (Syntax.tyEnum (List._∷_ 114 (List._∷_ 117 (List._∷_ 108 (List._∷_ 101 (List._∷_ 115 (List._∷_ 58 (List._∷_ 58 (List._∷_ 79 (List._∷_ 117 (List._∷_ 116 (List._∷_ 99 (List._∷_ 111 (List._∷_ 109 (List._∷_ 101 List.[])))))))))))))) (Syntax.ttcons Syntax.tnil (Syntax.ttcons (Syntax.tcons (Syntax.tyInt Syntax.w16) Syntax.tnil) (Syntax.ttcons (Syntax.tcons (Syntax.tyInt Syntax.w16) Syntax.tnil) Syntax.ttnil)))) (Syntax.tcons (Syntax.tyInt Syntax.w64) (Syntax.tcons (Syntax.tyInt Syntax.w64) Syntax.tnil))))) (List._∷_ (1, Rows.sslice (Referent.rtF (Referent.fInt Syntax.w8)) (Syntax.tyRef (Syntax.named 0) Syntax.imm (Syntax.tyInt Syntax.w8)) 0) (List._∷_ (2, Rows.sc-here (Row.sInt Syntax.w64)) (List._∷_ (3, Rows.sc-here Row.sBool) (List._∷_ (4, Relend.mslice-owed (Referent.rtF (Referent.fInt Syntax.w64)) (Syntax.tyRef (Syntax.named 1) Syntax.mut (Syntax.tyInt Syntax.w64)) 1 4 Row.off) (List._∷_ (5, Rows.mref Lent.R (Syntax.tyRef (Syntax.named 2) Syntax.mut Lent.refS) 2) (List._∷_ (6, Rows.sc-here Row.sBool) (List._∷_ (7, Rows.whole (Declared'.row PositionSyntax.the-type)) (List._∷_ (8, Rows.any-gone (Syntax.tyStruct (List._∷_ 112 (List._∷_ 111 (List._∷_ 115 (List._∷_ 105 (List._∷_ 116 (List._∷_ 105 (List._∷_ 111 (List._∷_ 110 (List._∷_ 58 (List._∷_ 58 (List._∷_ 80 (List._∷_ 111 (List._∷_ 115 (List._∷_ 105 (List._∷_ 116 (List._∷_ 105 (List._∷_ 111 (List._∷_ 110 (List._∷_ 65 (List._∷_ 110 (List._∷_ 115 (List._∷_ 119 (List._∷_ 101 (List._∷_ 114 List.[])))))))))))))))))))))))) (Syntax.tcons (Syntax.tyStruct (List._∷_ 114 (List._∷_ 117 (List._∷_ 108 (List._∷_ 101 (List._∷_ 115 (List._∷_ 58 (List._∷_ 58 (List._∷_ 65 (List._∷_ 110 (List._∷_ 115 (List._∷_ 119 (List._∷_ 101 (List._∷_ 114 List.[]))))))))))))) (Syntax.tcons (Syntax.tyEnum (List._∷_ 114 (List._∷_ 117 (List._∷_ 108 (List._∷_ 101 (List._∷_ 115 (List._∷_ 58 (List._∷_ 58 (List._∷_ 79 (List._∷_ 117 (List._∷_ 116 (List._∷_ 99 (List._∷_ 111 (List._∷_ 109 (List._∷_ 101 List.[])))))))))))))) (Syntax.ttcons Syntax.tnil (Syntax.ttcons (Syntax.tcons (Syntax.tyInt Syntax.w16) Syntax.tnil) (Syntax.ttcons (Syntax.tcons (Syntax.tyInt Syntax.w16) Syntax.tnil) Syntax.ttnil)))) (Syntax.tcons (Syntax.tyInt Syntax.w64) (Syntax.tcons (Syntax.tyInt Syntax.w64) Syntax.tnil)))) (Syntax.tcons (Syntax.tyStruct (List._∷_ 112 (List._∷_ 111 (List._∷_ 115 (List._∷_ 105 (List._∷_ 116 (List._∷_ 105 (List._∷_ 111 (List._∷_ 110 (List._∷_ 58 (List._∷_ 58 (List._∷_ 80 (List._∷_ 111 (List._∷_ 115 (List._∷_ 105 (List._∷_ 116 (List._∷_ 105 (List._∷_ 111 (List._∷_ 110 (List._∷_ 83 (List._∷_ 121 (List._∷_ 110 (List._∷_ 116 (List._∷_ 97 (List._∷_ 120 List.[])))))))))))))))))))))))) (Syntax.tcons Syntax.tyBool (Syntax.tcons Syntax.tyBool (Syntax.tcons (Syntax.tyInt Syntax.w64) (Syntax.tcons (Syntax.tyInt Syntax.w64) (Syntax.tcons (Syntax.tyInt Syntax.w64) (Syntax.tcons Syntax.tyBool Syntax.tnil))))))) Syntax.tnil)))) (List._∷_ (9, Rows.any-gone (Syntax.tyStruct (List._∷_ 114 (List._∷_ 117 (List._∷_ 108 (List._∷_ 101 (List._∷_ 115 (List._∷_ 58 (List._∷_ 58 (List._∷_ 65 (List._∷_ 110 (List._∷_ 115 (List._∷_ 119 (List._∷_ 101 (List._∷_ 114 List.[]))))))))))))) (Syntax.tcons (Syntax.tyEnum (List._∷_ 114 (List._∷_ 117 (List._∷_ 108 (List._∷_ 101 (List._∷_ 115 (List._∷_ 58 (List._∷_ 58 (List._∷_ 79 (List._∷_ 117 (List._∷_ 116 (List._∷_ 99 (List._∷_ 111 (List._∷_ 109 (List._∷_ 101 List.[])))))))))))))) (Syntax.ttcons Syntax.tnil (Syntax.ttcons (Syntax.tcons (Syntax.tyInt Syntax.w16) Syntax.tnil) (Syntax.ttcons (Syntax.tcons (Syntax.tyInt Syntax.w16) Syntax.tnil) Syntax.ttnil)))) (Syntax.tcons (Syntax.tyInt Syntax.w64) (Syntax.tcons (Syntax.tyInt Syntax.w64) Syntax.tnil))))) (List._∷_ (10, Rows.any-gone (Syntax.tyEnum (List._∷_ 114 (List._∷_ 117 (List._∷_ 108 (List._∷_ 101 (List._∷_ 115 (List._∷_ 58 (List._∷_ 58 (List._∷_ 79 (List._∷_ 117 (List._∷_ 116 (List._∷_ 99 (List._∷_ 111 (List._∷_ 109 (List._∷_ 101 List.[])))))))))))))) (Syntax.ttcons Syntax.tnil (Syntax.ttcons (Syntax.tcons (Syntax.tyInt Syntax.w16) Syntax.tnil) (Syntax.ttcons (Syntax.tcons (Syntax.tyInt Syntax.w16) Syntax.tnil) Syntax.ttnil))))) (List._∷_ (11, Rows.any-gone (Syntax.tyStruct (List._∷_ 112 (List._∷_ 111 (List._∷_ 115 (List._∷_ 105 (List._∷_ 116 (List._∷_ 105 (List._∷_ 111 (List._∷_ 110 (List._∷_ 58 (List._∷_ 58 (List._∷_ 80 (List._∷_ 111 (List._∷_ 115 (List._∷_ 105 (List._∷_ 116 (List._∷_ 105 (List._∷_ 111 (List._∷_ 110 (List._∷_ 83 (List._∷_ 121 (List._∷_ 110 (List._∷_ 116 (List._∷_ 97 (List._∷_ 120 List.[])))))))))))))))))))))))) (Syntax.tcons Syntax.tyBool (Syntax.tcons Syntax.tyBool (Syntax.tcons (Syntax.tyInt Syntax.w64) (Syntax.tcons (Syntax.tyInt Syntax.w64) (Syntax.tcons (Syntax.tyInt Syntax.w64) (Syntax.tcons Syntax.tyBool Syntax.tnil)))))))) (List._∷_ (12, Rows.any-gone (Syntax.tyRef Syntax.erased Syntax.imm Lent.refS)) (List._∷_ (13, Rows.any-gone (Syntax.tyRef Syntax.erased Syntax.mut (Syntax.tyInt Syntax.w64))) (List._∷_ (14, Mut.mslice (Referent.rtF (Referent.fInt Syntax.w64)) (Syntax.tyRef Syntax.erased Syntax.mut (Syntax.tyInt Syntax.w64)) 4) (List._∷_ (15, Rows.any-gone Syntax.tyBool) List.[])))))))))))))))
+t8 = List._∷_ (0, Rows.any-gone (Syntax.tyStruct (List._∷_ 114 (List._∷_ 117 (List._∷_ 108 (List._∷_ 101 (List._∷_ 115 (List._∷_ 58 (List._∷_ 58 (List._∷_ 65 (List._∷_ 110 (List._∷_ 115 (List._∷_ 119 (List._∷_ 101 (List._∷_ 114 List.[]))))))))))))) (Syntax.tcons (Syntax.tyEnum (List._∷_ 114 (List._∷_ 117 (List._∷_ 108 (List._∷_ 101 (List._∷_ 115 (List._∷_ 58 (List._∷_ 58 (List._∷_ 79 (List._∷_ 117 (List._∷_ 116 (List._∷_ 99 (List._∷_ 111 (List._∷_ 109 (List._∷_ 101 List.[])))))))))))))) (Syntax.ttcons Syntax.tnil (Syntax.ttcons (Syntax.tcons (Syntax.tyInt Syntax.w16) Syntax.tnil) (Syntax.ttcons (Syntax.tcons (Syntax.tyInt Syntax.w16) Syntax.tnil) Syntax.ttnil)))) (Syntax.tcons (Syntax.tyInt Syntax.w64) (Syntax.tcons (Syntax.tyInt Syntax.w64) Syntax.tnil))))) (List._∷_ (1, Rows.sslice (Referent.rtF (Referent.fInt Syntax.w8)) (Syntax.tyRef (Syntax.named 0) Syntax.imm (Syntax.tyInt Syntax.w8)) 0) (List._∷_ (2, Rows.sc-here (Row.sInt Syntax.w64)) (List._∷_ (3, Rows.sc-here Row.sBool) (List._∷_ (4, Relend.mslice-owed (Referent.rtF (Referent.fInt Syntax.w64)) (Syntax.tyRef (Syntax.named 1) Syntax.mut (Syntax.tyInt Syntax.w64)) 1 4 Row.off) (List._∷_ (5, Rows.mref Lent.R (Syntax.tyRef (Syntax.named 2) Syntax.mut Lent.refS) 2) (List._∷_ (6, Rows.sc-here Row.sBool) (List._∷_ (7, Rows.whole (Declared'.row PositionSyntax.the-type)) (List._∷_ (8, Rows.any-gone (Syntax.tyStruct (List._∷_ 112 (List._∷_ 111 (List._∷_ 115 (List._∷_ 105 (List._∷_ 116 (List._∷_ 105 (List._∷_ 111 (List._∷_ 110 (List._∷_ 95 (List._∷_ 97 (List._∷_ 108 (List._∷_ 111 (List._∷_ 110 (List._∷_ 101 (List._∷_ 58 (List._∷_ 58 (List._∷_ 80 (List._∷_ 111 (List._∷_ 115 (List._∷_ 105 (List._∷_ 116 (List._∷_ 105 (List._∷_ 111 (List._∷_ 110 (List._∷_ 65 (List._∷_ 110 (List._∷_ 115 (List._∷_ 119 (List._∷_ 101 (List._∷_ 114 List.[])))))))))))))))))))))))))))))) (Syntax.tcons (Syntax.tyStruct (List._∷_ 114 (List._∷_ 117 (List._∷_ 108 (List._∷_ 101 (List._∷_ 115 (List._∷_ 58 (List._∷_ 58 (List._∷_ 65 (List._∷_ 110 (List._∷_ 115 (List._∷_ 119 (List._∷_ 101 (List._∷_ 114 List.[]))))))))))))) (Syntax.tcons (Syntax.tyEnum (List._∷_ 114 (List._∷_ 117 (List._∷_ 108 (List._∷_ 101 (List._∷_ 115 (List._∷_ 58 (List._∷_ 58 (List._∷_ 79 (List._∷_ 117 (List._∷_ 116 (List._∷_ 99 (List._∷_ 111 (List._∷_ 109 (List._∷_ 101 List.[])))))))))))))) (Syntax.ttcons Syntax.tnil (Syntax.ttcons (Syntax.tcons (Syntax.tyInt Syntax.w16) Syntax.tnil) (Syntax.ttcons (Syntax.tcons (Syntax.tyInt Syntax.w16) Syntax.tnil) Syntax.ttnil)))) (Syntax.tcons (Syntax.tyInt Syntax.w64) (Syntax.tcons (Syntax.tyInt Syntax.w64) Syntax.tnil)))) (Syntax.tcons (Syntax.tyStruct (List._∷_ 112 (List._∷_ 111 (List._∷_ 115 (List._∷_ 105 (List._∷_ 116 (List._∷_ 105 (List._∷_ 111 (List._∷_ 110 (List._∷_ 58 (List._∷_ 58 (List._∷_ 80 (List._∷_ 111 (List._∷_ 115 (List._∷_ 105 (List._∷_ 116 (List._∷_ 105 (List._∷_ 111 (List._∷_ 110 (List._∷_ 83 (List._∷_ 121 (List._∷_ 110 (List._∷_ 116 (List._∷_ 97 (List._∷_ 120 List.[])))))))))))))))))))))))) (Syntax.tcons Syntax.tyBool (Syntax.tcons Syntax.tyBool (Syntax.tcons (Syntax.tyInt Syntax.w64) (Syntax.tcons (Syntax.tyInt Syntax.w64) (Syntax.tcons (Syntax.tyInt Syntax.w64) (Syntax.tcons Syntax.tyBool Syntax.tnil))))))) Syntax.tnil)))) (List._∷_ (9, Rows.any-gone (Syntax.tyStruct (List._∷_ 114 (List._∷_ 117 (List._∷_ 108 (List._∷_ 101 (List._∷_ 115 (List._∷_ 58 (List._∷_ 58 (List._∷_ 65 (List._∷_ 110 (List._∷_ 115 (List._∷_ 119 (List._∷_ 101 (List._∷_ 114 List.[]))))))))))))) (Syntax.tcons (Syntax.tyEnum (List._∷_ 114 (List._∷_ 117 (List._∷_ 108 (List._∷_ 101 (List._∷_ 115 (List._∷_ 58 (List._∷_ 58 (List._∷_ 79 (List._∷_ 117 (List._∷_ 116 (List._∷_ 99 (List._∷_ 111 (List._∷_ 109 (List._∷_ 101 List.[])))))))))))))) (Syntax.ttcons Syntax.tnil (Syntax.ttcons (Syntax.tcons (Syntax.tyInt Syntax.w16) Syntax.tnil) (Syntax.ttcons (Syntax.tcons (Syntax.tyInt Syntax.w16) Syntax.tnil) Syntax.ttnil)))) (Syntax.tcons (Syntax.tyInt Syntax.w64) (Syntax.tcons (Syntax.tyInt Syntax.w64) Syntax.tnil))))) (List._∷_ (10, Rows.any-gone (Syntax.tyEnum (List._∷_ 114 (List._∷_ 117 (List._∷_ 108 (List._∷_ 101 (List._∷_ 115 (List._∷_ 58 (List._∷_ 58 (List._∷_ 79 (List._∷_ 117 (List._∷_ 116 (List._∷_ 99 (List._∷_ 111 (List._∷_ 109 (List._∷_ 101 List.[])))))))))))))) (Syntax.ttcons Syntax.tnil (Syntax.ttcons (Syntax.tcons (Syntax.tyInt Syntax.w16) Syntax.tnil) (Syntax.ttcons (Syntax.tcons (Syntax.tyInt Syntax.w16) Syntax.tnil) Syntax.ttnil))))) (List._∷_ (11, Rows.any-gone (Syntax.tyStruct (List._∷_ 112 (List._∷_ 111 (List._∷_ 115 (List._∷_ 105 (List._∷_ 116 (List._∷_ 105 (List._∷_ 111 (List._∷_ 110 (List._∷_ 58 (List._∷_ 58 (List._∷_ 80 (List._∷_ 111 (List._∷_ 115 (List._∷_ 105 (List._∷_ 116 (List._∷_ 105 (List._∷_ 111 (List._∷_ 110 (List._∷_ 83 (List._∷_ 121 (List._∷_ 110 (List._∷_ 116 (List._∷_ 97 (List._∷_ 120 List.[])))))))))))))))))))))))) (Syntax.tcons Syntax.tyBool (Syntax.tcons Syntax.tyBool (Syntax.tcons (Syntax.tyInt Syntax.w64) (Syntax.tcons (Syntax.tyInt Syntax.w64) (Syntax.tcons (Syntax.tyInt Syntax.w64) (Syntax.tcons Syntax.tyBool Syntax.tnil)))))))) (List._∷_ (12, Rows.any-gone (Syntax.tyRef Syntax.erased Syntax.imm Lent.refS)) (List._∷_ (13, Rows.any-gone (Syntax.tyRef Syntax.erased Syntax.mut (Syntax.tyInt Syntax.w64))) (List._∷_ (14, Mut.mslice (Referent.rtF (Referent.fInt Syntax.w64)) (Syntax.tyRef Syntax.erased Syntax.mut (Syntax.tyInt Syntax.w64)) 4) (List._∷_ (15, Rows.any-gone Syntax.tyBool) List.[])))))))))))))))
 
 abbrev pub t9 : List.List Row.Entry
 t9 = List._∷_ (0, Rows.any-gone (Syntax.tyStruct (List._∷_ 114 (List._∷_ 117 (List._∷_ 108 (List._∷_ 101 (List._∷_ 115 (List._∷_ 58 (List._∷_ 58 (List._∷_ 65 (List._∷_ 110 (List._∷_ 115 (List._∷_ 119 (List._∷_ 101 (List._∷_ 114 List.[]))))))))))))) (Syntax.tcons (Syntax.tyEnum (List._∷_ 114 (List._∷_ 117 (List._∷_ 108 (List._∷_ 101 (List._∷_ 115 (List._∷_ 58 (List._∷_ 58 (List._∷_ 79 (List._∷_ 117 (List._∷_ 116 (List._∷_ 99 (List._∷_ 111 (List._∷_ 109 (List._∷_ 101 List.[])))))))))))))) (Syntax.ttcons Syntax.tnil (Syntax.ttcons (Syntax.tcons (Syntax.tyInt Syntax.w16) Syntax.tnil) (Syntax.ttcons (Syntax.tcons (Syntax.tyInt Syntax.w16) Syntax.tnil) Syntax.ttnil)))) (Syntax.tcons (Syntax.tyInt Syntax.w64) (Syntax.tcons (Syntax.tyInt Syntax.w64) Syntax.tnil))))) (List._∷_ (1, Rows.sslice (Referent.rtF (Referent.fInt Syntax.w8)) (Syntax.tyRef (Syntax.named 0) Syntax.imm (Syntax.tyInt Syntax.w8)) 0) (List._∷_ (2, Rows.sc-here (Row.sInt Syntax.w64)) (List._∷_ (3, Rows.sc-here Row.sBool) (List._∷_ (4, Relend.mslice-owed (Referent.rtF (Referent.fInt Syntax.w64)) (Syntax.tyRef (Syntax.named 1) Syntax.mut (Syntax.tyInt Syntax.w64)) 1 4 Row.off) (List._∷_ (5, Rows.mref Lent.R (Syntax.tyRef (Syntax.named 2) Syntax.mut Lent.refS) 2) (List._∷_ (6, Rows.sc-here Row.sBool) (List._∷_ (7, Rows.whole (Declared'.row PositionSyntax.the-type)) (List._∷_ (8, Rows.whole (Declared'.row PositionAnswer.the-type)) (List._∷_ (9, Rows.any-gone (Syntax.tyStruct (List._∷_ 114 (List._∷_ 117 (List._∷_ 108 (List._∷_ 101 (List._∷_ 115 (List._∷_ 58 (List._∷_ 58 (List._∷_ 65 (List._∷_ 110 (List._∷_ 115 (List._∷_ 119 (List._∷_ 101 (List._∷_ 114 List.[]))))))))))))) (Syntax.tcons (Syntax.tyEnum (List._∷_ 114 (List._∷_ 117 (List._∷_ 108 (List._∷_ 101 (List._∷_ 115 (List._∷_ 58 (List._∷_ 58 (List._∷_ 79 (List._∷_ 117 (List._∷_ 116 (List._∷_ 99 (List._∷_ 111 (List._∷_ 109 (List._∷_ 101 List.[])))))))))))))) (Syntax.ttcons Syntax.tnil (Syntax.ttcons (Syntax.tcons (Syntax.tyInt Syntax.w16) Syntax.tnil) (Syntax.ttcons (Syntax.tcons (Syntax.tyInt Syntax.w16) Syntax.tnil) Syntax.ttnil)))) (Syntax.tcons (Syntax.tyInt Syntax.w64) (Syntax.tcons (Syntax.tyInt Syntax.w64) Syntax.tnil))))) (List._∷_ (10, Rows.any-gone (Syntax.tyEnum (List._∷_ 114 (List._∷_ 117 (List._∷_ 108 (List._∷_ 101 (List._∷_ 115 (List._∷_ 58 (List._∷_ 58 (List._∷_ 79 (List._∷_ 117 (List._∷_ 116 (List._∷_ 99 (List._∷_ 111 (List._∷_ 109 (List._∷_ 101 List.[])))))))))))))) (Syntax.ttcons Syntax.tnil (Syntax.ttcons (Syntax.tcons (Syntax.tyInt Syntax.w16) Syntax.tnil) (Syntax.ttcons (Syntax.tcons (Syntax.tyInt Syntax.w16) Syntax.tnil) Syntax.ttnil))))) (List._∷_ (11, Rows.any-gone (Syntax.tyStruct (List._∷_ 112 (List._∷_ 111 (List._∷_ 115 (List._∷_ 105 (List._∷_ 116 (List._∷_ 105 (List._∷_ 111 (List._∷_ 110 (List._∷_ 58 (List._∷_ 58 (List._∷_ 80 (List._∷_ 111 (List._∷_ 115 (List._∷_ 105 (List._∷_ 116 (List._∷_ 105 (List._∷_ 111 (List._∷_ 110 (List._∷_ 83 (List._∷_ 121 (List._∷_ 110 (List._∷_ 116 (List._∷_ 97 (List._∷_ 120 List.[])))))))))))))))))))))))) (Syntax.tcons Syntax.tyBool (Syntax.tcons Syntax.tyBool (Syntax.tcons (Syntax.tyInt Syntax.w64) (Syntax.tcons (Syntax.tyInt Syntax.w64) (Syntax.tcons (Syntax.tyInt Syntax.w64) (Syntax.tcons Syntax.tyBool Syntax.tnil)))))))) (List._∷_ (12, Rows.any-gone (Syntax.tyRef Syntax.erased Syntax.imm Lent.refS)) (List._∷_ (13, Rows.any-gone (Syntax.tyRef Syntax.erased Syntax.mut (Syntax.tyInt Syntax.w64))) (List._∷_ (14, Mut.msleft (Referent.rtF (Referent.fInt Syntax.w64)) (Syntax.tyRef Syntax.erased Syntax.mut (Syntax.tyInt Syntax.w64))) (List._∷_ (15, Rows.any-gone Syntax.tyBool) List.[])))))))))))))))
@@ -246,7 +246,7 @@ abbrev pub t14 : List.List Row.Entry
 t14 = List._∷_ (0, Rows.any-gone (Syntax.tyStruct (List._∷_ 114 (List._∷_ 117 (List._∷_ 108 (List._∷_ 101 (List._∷_ 115 (List._∷_ 58 (List._∷_ 58 (List._∷_ 65 (List._∷_ 110 (List._∷_ 115 (List._∷_ 119 (List._∷_ 101 (List._∷_ 114 List.[]))))))))))))) (Syntax.tcons (Syntax.tyEnum (List._∷_ 114 (List._∷_ 117 (List._∷_ 108 (List._∷_ 101 (List._∷_ 115 (List._∷_ 58 (List._∷_ 58 (List._∷_ 79 (List._∷_ 117 (List._∷_ 116 (List._∷_ 99 (List._∷_ 111 (List._∷_ 109 (List._∷_ 101 List.[])))))))))))))) (Syntax.ttcons Syntax.tnil (Syntax.ttcons (Syntax.tcons (Syntax.tyInt Syntax.w16) Syntax.tnil) (Syntax.ttcons (Syntax.tcons (Syntax.tyInt Syntax.w16) Syntax.tnil) Syntax.ttnil)))) (Syntax.tcons (Syntax.tyInt Syntax.w64) (Syntax.tcons (Syntax.tyInt Syntax.w64) Syntax.tnil))))) (List._∷_ (1, Rows.sslice (Referent.rtF (Referent.fInt Syntax.w8)) (Syntax.tyRef (Syntax.named 0) Syntax.imm (Syntax.tyInt Syntax.w8)) 0) (List._∷_ (2, Rows.sc-here (Row.sInt Syntax.w64)) (List._∷_ (3, Rows.sc-here Row.sBool) (List._∷_ (4, Mut.mslice (Referent.rtF (Referent.fInt Syntax.w64)) (Syntax.tyRef (Syntax.named 1) Syntax.mut (Syntax.tyInt Syntax.w64)) 1) (List._∷_ (5, Rows.mref Lent.R (Syntax.tyRef (Syntax.named 2) Syntax.mut Lent.refS) 2) (List._∷_ (6, Rows.sc-here Row.sBool) (List._∷_ (7, Rows.any-gone (Syntax.tyStruct (List._∷_ 112 (List._∷_ 111 (List._∷_ 115 (List._∷_ 105 (List._∷_ 116 (List._∷_ 105 (List._∷_ 111 (List._∷_ 110 (List._∷_ 58 (List._∷_ 58 (List._∷_ 80 (List._∷_ 111 (List._∷_ 115 (List._∷_ 105 (List._∷_ 116 (List._∷_ 105 (List._∷_ 111 (List._∷_ 110 (List._∷_ 83 (List._∷_ 121 (List._∷_ 110 (List._∷_ 116 (List._∷_ 97 (List._∷_ 120 List.[])))))))))))))))))))))))) (Syntax.tcons Syntax.tyBool (Syntax.tcons Syntax.tyBool (Syntax.tcons (Syntax.tyInt Syntax.w64) (Syntax.tcons (Syntax.tyInt Syntax.w64) (Syntax.tcons (Syntax.tyInt Syntax.w64) (Syntax.tcons Syntax.tyBool Syntax.tnil)))))))) (List._∷_ (8, Rows.whole (Declared'.row PositionAnswer.the-type)) (List._∷_ (9, Rows.whole (Declared'.row Answer.the-type)) (List._∷_ (10, Rows.whole (Declared.row Outcome.the-type)) (List._∷_ (11, Rows.any-gone (Syntax.tyStruct (List._∷_ 112 (List._∷_ 111 (List._∷_ 115 (List._∷_ 105 (List._∷_ 116 (List._∷_ 105 (List._∷_ 111 (List._∷_ 110 (List._∷_ 58 (List._∷_ 58 (List._∷_ 80 (List._∷_ 111 (List._∷_ 115 (List._∷_ 105 (List._∷_ 116 (List._∷_ 105 (List._∷_ 111 (List._∷_ 110 (List._∷_ 83 (List._∷_ 121 (List._∷_ 110 (List._∷_ 116 (List._∷_ 97 (List._∷_ 120 List.[])))))))))))))))))))))))) (Syntax.tcons Syntax.tyBool (Syntax.tcons Syntax.tyBool (Syntax.tcons (Syntax.tyInt Syntax.w64) (Syntax.tcons (Syntax.tyInt Syntax.w64) (Syntax.tcons (Syntax.tyInt Syntax.w64) (Syntax.tcons Syntax.tyBool Syntax.tnil)))))))) (List._∷_ (12, Rows.any-gone (Syntax.tyRef Syntax.erased Syntax.imm Lent.refS)) (List._∷_ (13, Rows.any-gone (Syntax.tyRef Syntax.erased Syntax.mut (Syntax.tyInt Syntax.w64))) (List._∷_ (14, Rows.any-gone (Syntax.tyStruct (List._∷_ 38 (List._∷_ 91 (List._∷_ 93 List.[]))) (Syntax.tcons (Syntax.tyRef Syntax.erased Syntax.mut (Syntax.tyInt Syntax.w64)) (Syntax.tcons (Syntax.tyInt Syntax.w64) Syntax.tnil)))) (List._∷_ (15, Rows.sc-here Row.sBool) List.[])))))))))))))))
 
 abbrev pub t15 : List.List Row.Entry
-t15 = List._∷_ (0, Rows.any-gone (Syntax.tyStruct (List._∷_ 114 (List._∷_ 117 (List._∷_ 108 (List._∷_ 101 (List._∷_ 115 (List._∷_ 58 (List._∷_ 58 (List._∷_ 65 (List._∷_ 110 (List._∷_ 115 (List._∷_ 119 (List._∷_ 101 (List._∷_ 114 List.[]))))))))))))) (Syntax.tcons (Syntax.tyEnum (List._∷_ 114 (List._∷_ 117 (List._∷_ 108 (List._∷_ 101 (List._∷_ 115 (List._∷_ 58 (List._∷_ 58 (List._∷_ 79 (List._∷_ 117 (List._∷_ 116 (List._∷_ 99 (List._∷_ 111 (List._∷_ 109 (List._∷_ 101 List.[])))))))))))))) (Syntax.ttcons Syntax.tnil (Syntax.ttcons (Syntax.tcons (Syntax.tyInt Syntax.w16) Syntax.tnil) (Syntax.ttcons (Syntax.tcons (Syntax.tyInt Syntax.w16) Syntax.tnil) Syntax.ttnil)))) (Syntax.tcons (Syntax.tyInt Syntax.w64) (Syntax.tcons (Syntax.tyInt Syntax.w64) Syntax.tnil))))) (List._∷_ (1, Rows.sslice (Referent.rtF (Referent.fInt Syntax.w8)) (Syntax.tyRef (Syntax.named 0) Syntax.imm (Syntax.tyInt Syntax.w8)) 0) (List._∷_ (2, Rows.sc-here (Row.sInt Syntax.w64)) (List._∷_ (3, Rows.sc-here Row.sBool) (List._∷_ (4, Mut.mslice (Referent.rtF (Referent.fInt Syntax.w64)) (Syntax.tyRef (Syntax.named 1) Syntax.mut (Syntax.tyInt Syntax.w64)) 1) (List._∷_ (5, Rows.mref Lent.R (Syntax.tyRef (Syntax.named 2) Syntax.mut Lent.refS) 2) (List._∷_ (6, Rows.sc-here Row.sBool) (List._∷_ (7, Rows.any-gone (Syntax.tyStruct (List._∷_ 112 (List._∷_ 111 (List._∷_ 115 (List._∷_ 105 (List._∷_ 116 (List._∷_ 105 (List._∷_ 111 (List._∷_ 110 (List._∷_ 58 (List._∷_ 58 (List._∷_ 80 (List._∷_ 111 (List._∷_ 115 (List._∷_ 105 (List._∷_ 116 (List._∷_ 105 (List._∷_ 111 (List._∷_ 110 (List._∷_ 83 (List._∷_ 121 (List._∷_ 110 (List._∷_ 116 (List._∷_ 97 (List._∷_ 120 List.[])))))))))))))))))))))))) (Syntax.tcons Syntax.tyBool (Syntax.tcons Syntax.tyBool (Syntax.tcons (Syntax.tyInt Syntax.w64) (Syntax.tcons (Syntax.tyInt Syntax.w64) (Syntax.tcons (Syntax.tyInt Syntax.w64) (Syntax.tcons Syntax.tyBool Syntax.tnil)))))))) (List._∷_ (8, Rows.any-gone (Syntax.tyStruct (List._∷_ 112 (List._∷_ 111 (List._∷_ 115 (List._∷_ 105 (List._∷_ 116 (List._∷_ 105 (List._∷_ 111 (List._∷_ 110 (List._∷_ 58 (List._∷_ 58 (List._∷_ 80 (List._∷_ 111 (List._∷_ 115 (List._∷_ 105 (List._∷_ 116 (List._∷_ 105 (List._∷_ 111 (List._∷_ 110 (List._∷_ 65 (List._∷_ 110 (List._∷_ 115 (List._∷_ 119 (List._∷_ 101 (List._∷_ 114 List.[])))))))))))))))))))))))) (Syntax.tcons (Syntax.tyStruct (List._∷_ 114 (List._∷_ 117 (List._∷_ 108 (List._∷_ 101 (List._∷_ 115 (List._∷_ 58 (List._∷_ 58 (List._∷_ 65 (List._∷_ 110 (List._∷_ 115 (List._∷_ 119 (List._∷_ 101 (List._∷_ 114 List.[]))))))))))))) (Syntax.tcons (Syntax.tyEnum (List._∷_ 114 (List._∷_ 117 (List._∷_ 108 (List._∷_ 101 (List._∷_ 115 (List._∷_ 58 (List._∷_ 58 (List._∷_ 79 (List._∷_ 117 (List._∷_ 116 (List._∷_ 99 (List._∷_ 111 (List._∷_ 109 (List._∷_ 101 List.[])))))))))))))) (Syntax.ttcons Syntax.tnil (Syntax.ttcons (Syntax.tcons (Syntax.tyInt Syntax.w16) Syntax.tnil) (Syntax.ttcons (Syntax.tcons (Syntax.tyInt Syntax.w16) Syntax.tnil) Syntax.ttnil)))) (Syntax.tcons (Syntax.tyInt Syntax.w64) (Syntax.tcons (Syntax.tyInt Syntax.w64) Syntax.tnil)))) (Syntax.tcons (Syntax.tyStruct (List._∷_ 112 (List._∷_ 111 (List._∷_ 115 (List._∷_ 105 (List._∷_ 116 (List._∷_ 105 (List._∷_ 111 (List._∷_ 110 (List._∷_ 58 (List._∷_ 58 (List._∷_ 80 (List._∷_ 111 (List._∷_ 115 (List._∷_ 105 (List._∷_ 116 (List._∷_ 105 (List._∷_ 111 (List._∷_ 110 (List._∷_ 83 (List._∷_ 121 (List._∷_ 110 (List._∷_ 116 (List._∷_ 97 (List._∷_ 120 List.[])))))))))))))))))))))))) (Syntax.tcons Syntax.tyBool (Syntax.tcons Syntax.tyBool (Syntax.tcons (Syntax.tyInt Syntax.w64) (Syntax.tcons (Syntax.tyInt Syntax.w64) (Syntax.tcons (Syntax.tyInt Syntax.w64) (Syntax.tcons Syntax.tyBool Syntax.tnil))))))) Syntax.tnil)))) (List._∷_ (9, Rows.whole (Declared'.row Answer.the-type)) (List._∷_ (10, Rows.any-gone (Syntax.tyEnum (List._∷_ 114 (List._∷_ 117 (List._∷_ 108 (List._∷_ 101 (List._∷_ 115 (List._∷_ 58 (List._∷_ 58 (List._∷_ 79 (List._∷_ 117 (List._∷_ 116 (List._∷_ 99 (List._∷_ 111 (List._∷_ 109 (List._∷_ 101 List.[])))))))))))))) (Syntax.ttcons Syntax.tnil (Syntax.ttcons (Syntax.tcons (Syntax.tyInt Syntax.w16) Syntax.tnil) (Syntax.ttcons (Syntax.tcons (Syntax.tyInt Syntax.w16) Syntax.tnil) Syntax.ttnil))))) (List._∷_ (11, Rows.any-gone (Syntax.tyStruct (List._∷_ 112 (List._∷_ 111 (List._∷_ 115 (List._∷_ 105 (List._∷_ 116 (List._∷_ 105 (List._∷_ 111 (List._∷_ 110 (List._∷_ 58 (List._∷_ 58 (List._∷_ 80 (List._∷_ 111 (List._∷_ 115 (List._∷_ 105 (List._∷_ 116 (List._∷_ 105 (List._∷_ 111 (List._∷_ 110 (List._∷_ 83 (List._∷_ 121 (List._∷_ 110 (List._∷_ 116 (List._∷_ 97 (List._∷_ 120 List.[])))))))))))))))))))))))) (Syntax.tcons Syntax.tyBool (Syntax.tcons Syntax.tyBool (Syntax.tcons (Syntax.tyInt Syntax.w64) (Syntax.tcons (Syntax.tyInt Syntax.w64) (Syntax.tcons (Syntax.tyInt Syntax.w64) (Syntax.tcons Syntax.tyBool Syntax.tnil)))))))) (List._∷_ (12, Rows.any-gone (Syntax.tyRef Syntax.erased Syntax.imm Lent.refS)) (List._∷_ (13, Rows.any-gone (Syntax.tyRef Syntax.erased Syntax.mut (Syntax.tyInt Syntax.w64))) (List._∷_ (14, Rows.any-gone (Syntax.tyStruct (List._∷_ 38 (List._∷_ 91 (List._∷_ 93 List.[]))) (Syntax.tcons (Syntax.tyRef Syntax.erased Syntax.mut (Syntax.tyInt Syntax.w64)) (Syntax.tcons (Syntax.tyInt Syntax.w64) Syntax.tnil)))) (List._∷_ (15, Rows.any-gone Syntax.tyBool) List.[])))))))))))))))
+t15 = List._∷_ (0, Rows.any-gone (Syntax.tyStruct (List._∷_ 114 (List._∷_ 117 (List._∷_ 108 (List._∷_ 101 (List._∷_ 115 (List._∷_ 58 (List._∷_ 58 (List._∷_ 65 (List._∷_ 110 (List._∷_ 115 (List._∷_ 119 (List._∷_ 101 (List._∷_ 114 List.[]))))))))))))) (Syntax.tcons (Syntax.tyEnum (List._∷_ 114 (List._∷_ 117 (List._∷_ 108 (List._∷_ 101 (List._∷_ 115 (List._∷_ 58 (List._∷_ 58 (List._∷_ 79 (List._∷_ 117 (List._∷_ 116 (List._∷_ 99 (List._∷_ 111 (List._∷_ 109 (List._∷_ 101 List.[])))))))))))))) (Syntax.ttcons Syntax.tnil (Syntax.ttcons (Syntax.tcons (Syntax.tyInt Syntax.w16) Syntax.tnil) (Syntax.ttcons (Syntax.tcons (Syntax.tyInt Syntax.w16) Syntax.tnil) Syntax.ttnil)))) (Syntax.tcons (Syntax.tyInt Syntax.w64) (Syntax.tcons (Syntax.tyInt Syntax.w64) Syntax.tnil))))) (List._∷_ (1, Rows.sslice (Referent.rtF (Referent.fInt Syntax.w8)) (Syntax.tyRef (Syntax.named 0) Syntax.imm (Syntax.tyInt Syntax.w8)) 0) (List._∷_ (2, Rows.sc-here (Row.sInt Syntax.w64)) (List._∷_ (3, Rows.sc-here Row.sBool) (List._∷_ (4, Mut.mslice (Referent.rtF (Referent.fInt Syntax.w64)) (Syntax.tyRef (Syntax.named 1) Syntax.mut (Syntax.tyInt Syntax.w64)) 1) (List._∷_ (5, Rows.mref Lent.R (Syntax.tyRef (Syntax.named 2) Syntax.mut Lent.refS) 2) (List._∷_ (6, Rows.sc-here Row.sBool) (List._∷_ (7, Rows.any-gone (Syntax.tyStruct (List._∷_ 112 (List._∷_ 111 (List._∷_ 115 (List._∷_ 105 (List._∷_ 116 (List._∷_ 105 (List._∷_ 111 (List._∷_ 110 (List._∷_ 58 (List._∷_ 58 (List._∷_ 80 (List._∷_ 111 (List._∷_ 115 (List._∷_ 105 (List._∷_ 116 (List._∷_ 105 (List._∷_ 111 (List._∷_ 110 (List._∷_ 83 (List._∷_ 121 (List._∷_ 110 (List._∷_ 116 (List._∷_ 97 (List._∷_ 120 List.[])))))))))))))))))))))))) (Syntax.tcons Syntax.tyBool (Syntax.tcons Syntax.tyBool (Syntax.tcons (Syntax.tyInt Syntax.w64) (Syntax.tcons (Syntax.tyInt Syntax.w64) (Syntax.tcons (Syntax.tyInt Syntax.w64) (Syntax.tcons Syntax.tyBool Syntax.tnil)))))))) (List._∷_ (8, Rows.any-gone (Syntax.tyStruct (List._∷_ 112 (List._∷_ 111 (List._∷_ 115 (List._∷_ 105 (List._∷_ 116 (List._∷_ 105 (List._∷_ 111 (List._∷_ 110 (List._∷_ 95 (List._∷_ 97 (List._∷_ 108 (List._∷_ 111 (List._∷_ 110 (List._∷_ 101 (List._∷_ 58 (List._∷_ 58 (List._∷_ 80 (List._∷_ 111 (List._∷_ 115 (List._∷_ 105 (List._∷_ 116 (List._∷_ 105 (List._∷_ 111 (List._∷_ 110 (List._∷_ 65 (List._∷_ 110 (List._∷_ 115 (List._∷_ 119 (List._∷_ 101 (List._∷_ 114 List.[])))))))))))))))))))))))))))))) (Syntax.tcons (Syntax.tyStruct (List._∷_ 114 (List._∷_ 117 (List._∷_ 108 (List._∷_ 101 (List._∷_ 115 (List._∷_ 58 (List._∷_ 58 (List._∷_ 65 (List._∷_ 110 (List._∷_ 115 (List._∷_ 119 (List._∷_ 101 (List._∷_ 114 List.[]))))))))))))) (Syntax.tcons (Syntax.tyEnum (List._∷_ 114 (List._∷_ 117 (List._∷_ 108 (List._∷_ 101 (List._∷_ 115 (List._∷_ 58 (List._∷_ 58 (List._∷_ 79 (List._∷_ 117 (List._∷_ 116 (List._∷_ 99 (List._∷_ 111 (List._∷_ 109 (List._∷_ 101 List.[])))))))))))))) (Syntax.ttcons Syntax.tnil (Syntax.ttcons (Syntax.tcons (Syntax.tyInt Syntax.w16) Syntax.tnil) (Syntax.ttcons (Syntax.tcons (Syntax.tyInt Syntax.w16) Syntax.tnil) Syntax.ttnil)))) (Syntax.tcons (Syntax.tyInt Syntax.w64) (Syntax.tcons (Syntax.tyInt Syntax.w64) Syntax.tnil)))) (Syntax.tcons (Syntax.tyStruct (List._∷_ 112 (List._∷_ 111 (List._∷_ 115 (List._∷_ 105 (List._∷_ 116 (List._∷_ 105 (List._∷_ 111 (List._∷_ 110 (List._∷_ 58 (List._∷_ 58 (List._∷_ 80 (List._∷_ 111 (List._∷_ 115 (List._∷_ 105 (List._∷_ 116 (List._∷_ 105 (List._∷_ 111 (List._∷_ 110 (List._∷_ 83 (List._∷_ 121 (List._∷_ 110 (List._∷_ 116 (List._∷_ 97 (List._∷_ 120 List.[])))))))))))))))))))))))) (Syntax.tcons Syntax.tyBool (Syntax.tcons Syntax.tyBool (Syntax.tcons (Syntax.tyInt Syntax.w64) (Syntax.tcons (Syntax.tyInt Syntax.w64) (Syntax.tcons (Syntax.tyInt Syntax.w64) (Syntax.tcons Syntax.tyBool Syntax.tnil))))))) Syntax.tnil)))) (List._∷_ (9, Rows.whole (Declared'.row Answer.the-type)) (List._∷_ (10, Rows.any-gone (Syntax.tyEnum (List._∷_ 114 (List._∷_ 117 (List._∷_ 108 (List._∷_ 101 (List._∷_ 115 (List._∷_ 58 (List._∷_ 58 (List._∷_ 79 (List._∷_ 117 (List._∷_ 116 (List._∷_ 99 (List._∷_ 111 (List._∷_ 109 (List._∷_ 101 List.[])))))))))))))) (Syntax.ttcons Syntax.tnil (Syntax.ttcons (Syntax.tcons (Syntax.tyInt Syntax.w16) Syntax.tnil) (Syntax.ttcons (Syntax.tcons (Syntax.tyInt Syntax.w16) Syntax.tnil) Syntax.ttnil))))) (List._∷_ (11, Rows.any-gone (Syntax.tyStruct (List._∷_ 112 (List._∷_ 111 (List._∷_ 115 (List._∷_ 105 (List._∷_ 116 (List._∷_ 105 (List._∷_ 111 (List._∷_ 110 (List._∷_ 58 (List._∷_ 58 (List._∷_ 80 (List._∷_ 111 (List._∷_ 115 (List._∷_ 105 (List._∷_ 116 (List._∷_ 105 (List._∷_ 111 (List._∷_ 110 (List._∷_ 83 (List._∷_ 121 (List._∷_ 110 (List._∷_ 116 (List._∷_ 97 (List._∷_ 120 List.[])))))))))))))))))))))))) (Syntax.tcons Syntax.tyBool (Syntax.tcons Syntax.tyBool (Syntax.tcons (Syntax.tyInt Syntax.w64) (Syntax.tcons (Syntax.tyInt Syntax.w64) (Syntax.tcons (Syntax.tyInt Syntax.w64) (Syntax.tcons Syntax.tyBool Syntax.tnil)))))))) (List._∷_ (12, Rows.any-gone (Syntax.tyRef Syntax.erased Syntax.imm Lent.refS)) (List._∷_ (13, Rows.any-gone (Syntax.tyRef Syntax.erased Syntax.mut (Syntax.tyInt Syntax.w64))) (List._∷_ (14, Rows.any-gone (Syntax.tyStruct (List._∷_ 38 (List._∷_ 91 (List._∷_ 93 List.[]))) (Syntax.tcons (Syntax.tyRef Syntax.erased Syntax.mut (Syntax.tyInt Syntax.w64)) (Syntax.tcons (Syntax.tyInt Syntax.w64) Syntax.tnil)))) (List._∷_ (15, Rows.any-gone Syntax.tyBool) List.[])))))))))))))))
 
 abbrev pub t16 : List.List Row.Entry
 t16 = List._∷_ (0, Rows.any-gone (Syntax.tyStruct (List._∷_ 114 (List._∷_ 117 (List._∷_ 108 (List._∷_ 101 (List._∷_ 115 (List._∷_ 58 (List._∷_ 58 (List._∷_ 65 (List._∷_ 110 (List._∷_ 115 (List._∷_ 119 (List._∷_ 101 (List._∷_ 114 List.[]))))))))))))) (Syntax.tcons (Syntax.tyEnum (List._∷_ 114 (List._∷_ 117 (List._∷_ 108 (List._∷_ 101 (List._∷_ 115 (List._∷_ 58 (List._∷_ 58 (List._∷_ 79 (List._∷_ 117 (List._∷_ 116 (List._∷_ 99 (List._∷_ 111 (List._∷_ 109 (List._∷_ 101 List.[])))))))))))))) (Syntax.ttcons Syntax.tnil (Syntax.ttcons (Syntax.tcons (Syntax.tyInt Syntax.w16) Syntax.tnil) (Syntax.ttcons (Syntax.tcons (Syntax.tyInt Syntax.w16) Syntax.tnil) Syntax.ttnil)))) (Syntax.tcons (Syntax.tyInt Syntax.w64) (Syntax.tcons (Syntax.tyInt Syntax.w64) Syntax.tnil))))) (List._∷_ (1, Rows.sslice (Referent.rtF (Referent.fInt Syntax.w8)) (Syntax.tyRef (Syntax.named 0) Syntax.imm (Syntax.tyInt Syntax.w8)) 0) (List._∷_ (2, Rows.sc-here (Row.sInt Syntax.w64)) (List._∷_ (3, Rows.sc-here Row.sBool) (List._∷_ (4, Mut.mslice (Referent.rtF (Referent.fInt Syntax.w64)) (Syntax.tyRef (Syntax.named 1) Syntax.mut (Syntax.tyInt Syntax.w64)) 1) (List._∷_ (5, Rows.mref Lent.R (Syntax.tyRef (Syntax.named 2) Syntax.mut Lent.refS) 2) (List._∷_ (6, Rows.sc-here Row.sBool) (List._∷_ (7, Rows.any-gone (Syntax.tyStruct (List._∷_ 112 (List._∷_ 111 (List._∷_ 115 (List._∷_ 105 (List._∷_ 116 (List._∷_ 105 (List._∷_ 111 (List._∷_ 110 (List._∷_ 58 (List._∷_ 58 (List._∷_ 80 (List._∷_ 111 (List._∷_ 115 (List._∷_ 105 (List._∷_ 116 (List._∷_ 105 (List._∷_ 111 (List._∷_ 110 (List._∷_ 83 (List._∷_ 121 (List._∷_ 110 (List._∷_ 116 (List._∷_ 97 (List._∷_ 120 List.[])))))))))))))))))))))))) (Syntax.tcons Syntax.tyBool (Syntax.tcons Syntax.tyBool (Syntax.tcons (Syntax.tyInt Syntax.w64) (Syntax.tcons (Syntax.tyInt Syntax.w64) (Syntax.tcons (Syntax.tyInt Syntax.w64) (Syntax.tcons Syntax.tyBool Syntax.tnil)))))))) (List._∷_ (8, Rows.whole (Declared'.row PositionAnswer.the-type)) (List._∷_ (9, Rows.whole (Declared'.row Answer.the-type)) (List._∷_ (10, Rows.any-gone (Syntax.tyEnum (List._∷_ 114 (List._∷_ 117 (List._∷_ 108 (List._∷_ 101 (List._∷_ 115 (List._∷_ 58 (List._∷_ 58 (List._∷_ 79 (List._∷_ 117 (List._∷_ 116 (List._∷_ 99 (List._∷_ 111 (List._∷_ 109 (List._∷_ 101 List.[])))))))))))))) (Syntax.ttcons Syntax.tnil (Syntax.ttcons (Syntax.tcons (Syntax.tyInt Syntax.w16) Syntax.tnil) (Syntax.ttcons (Syntax.tcons (Syntax.tyInt Syntax.w16) Syntax.tnil) Syntax.ttnil))))) (List._∷_ (11, Rows.any-gone (Syntax.tyStruct (List._∷_ 112 (List._∷_ 111 (List._∷_ 115 (List._∷_ 105 (List._∷_ 116 (List._∷_ 105 (List._∷_ 111 (List._∷_ 110 (List._∷_ 58 (List._∷_ 58 (List._∷_ 80 (List._∷_ 111 (List._∷_ 115 (List._∷_ 105 (List._∷_ 116 (List._∷_ 105 (List._∷_ 111 (List._∷_ 110 (List._∷_ 83 (List._∷_ 121 (List._∷_ 110 (List._∷_ 116 (List._∷_ 97 (List._∷_ 120 List.[])))))))))))))))))))))))) (Syntax.tcons Syntax.tyBool (Syntax.tcons Syntax.tyBool (Syntax.tcons (Syntax.tyInt Syntax.w64) (Syntax.tcons (Syntax.tyInt Syntax.w64) (Syntax.tcons (Syntax.tyInt Syntax.w64) (Syntax.tcons Syntax.tyBool Syntax.tnil)))))))) (List._∷_ (12, Rows.any-gone (Syntax.tyRef Syntax.erased Syntax.imm Lent.refS)) (List._∷_ (13, Rows.any-gone (Syntax.tyRef Syntax.erased Syntax.mut (Syntax.tyInt Syntax.w64))) (List._∷_ (14, Rows.any-gone (Syntax.tyStruct (List._∷_ 38 (List._∷_ 91 (List._∷_ 93 List.[]))) (Syntax.tcons (Syntax.tyRef Syntax.erased Syntax.mut (Syntax.tyInt Syntax.w64)) (Syntax.tcons (Syntax.tyInt Syntax.w64) Syntax.tnil)))) (List._∷_ (15, Rows.sc-here Row.sBool) List.[])))))))))))))))
@@ -255,10 +255,10 @@ abbrev pub t17 : List.List Row.Entry
 t17 = List._∷_ (0, Rows.any-gone (Syntax.tyStruct (List._∷_ 114 (List._∷_ 117 (List._∷_ 108 (List._∷_ 101 (List._∷_ 115 (List._∷_ 58 (List._∷_ 58 (List._∷_ 65 (List._∷_ 110 (List._∷_ 115 (List._∷_ 119 (List._∷_ 101 (List._∷_ 114 List.[]))))))))))))) (Syntax.tcons (Syntax.tyEnum (List._∷_ 114 (List._∷_ 117 (List._∷_ 108 (List._∷_ 101 (List._∷_ 115 (List._∷_ 58 (List._∷_ 58 (List._∷_ 79 (List._∷_ 117 (List._∷_ 116 (List._∷_ 99 (List._∷_ 111 (List._∷_ 109 (List._∷_ 101 List.[])))))))))))))) (Syntax.ttcons Syntax.tnil (Syntax.ttcons (Syntax.tcons (Syntax.tyInt Syntax.w16) Syntax.tnil) (Syntax.ttcons (Syntax.tcons (Syntax.tyInt Syntax.w16) Syntax.tnil) Syntax.ttnil)))) (Syntax.tcons (Syntax.tyInt Syntax.w64) (Syntax.tcons (Syntax.tyInt Syntax.w64) Syntax.tnil))))) (List._∷_ (1, Rows.sslice (Referent.rtF (Referent.fInt Syntax.w8)) (Syntax.tyRef (Syntax.named 0) Syntax.imm (Syntax.tyInt Syntax.w8)) 0) (List._∷_ (2, Rows.sc-here (Row.sInt Syntax.w64)) (List._∷_ (3, Rows.sc-here Row.sBool) (List._∷_ (4, Mut.mslice (Referent.rtF (Referent.fInt Syntax.w64)) (Syntax.tyRef (Syntax.named 1) Syntax.mut (Syntax.tyInt Syntax.w64)) 1) (List._∷_ (5, Rows.mref Lent.R (Syntax.tyRef (Syntax.named 2) Syntax.mut Lent.refS) 2) (List._∷_ (6, Rows.sc-here Row.sBool) (List._∷_ (7, Rows.any-gone (Syntax.tyStruct (List._∷_ 112 (List._∷_ 111 (List._∷_ 115 (List._∷_ 105 (List._∷_ 116 (List._∷_ 105 (List._∷_ 111 (List._∷_ 110 (List._∷_ 58 (List._∷_ 58 (List._∷_ 80 (List._∷_ 111 (List._∷_ 115 (List._∷_ 105 (List._∷_ 116 (List._∷_ 105 (List._∷_ 111 (List._∷_ 110 (List._∷_ 83 (List._∷_ 121 (List._∷_ 110 (List._∷_ 116 (List._∷_ 97 (List._∷_ 120 List.[])))))))))))))))))))))))) (Syntax.tcons Syntax.tyBool (Syntax.tcons Syntax.tyBool (Syntax.tcons (Syntax.tyInt Syntax.w64) (Syntax.tcons (Syntax.tyInt Syntax.w64) (Syntax.tcons (Syntax.tyInt Syntax.w64) (Syntax.tcons Syntax.tyBool Syntax.tnil)))))))) (List._∷_ (8, Rows.whole (Declared'.row PositionAnswer.the-type)) (List._∷_ (9, Rows.whole (Declared'.row Answer.the-type)) (List._∷_ (10, Rows.any-gone (Syntax.tyEnum (List._∷_ 114 (List._∷_ 117 (List._∷_ 108 (List._∷_ 101 (List._∷_ 115 (List._∷_ 58 (List._∷_ 58 (List._∷_ 79 (List._∷_ 117 (List._∷_ 116 (List._∷_ 99 (List._∷_ 111 (List._∷_ 109 (List._∷_ 101 List.[])))))))))))))) (Syntax.ttcons Syntax.tnil (Syntax.ttcons (Syntax.tcons (Syntax.tyInt Syntax.w16) Syntax.tnil) (Syntax.ttcons (Syntax.tcons (Syntax.tyInt Syntax.w16) Syntax.tnil) Syntax.ttnil))))) (List._∷_ (11, Rows.whole (Declared'.row PositionSyntax.the-type)) (List._∷_ (12, Rows.any-gone (Syntax.tyRef Syntax.erased Syntax.imm Lent.refS)) (List._∷_ (13, Rows.any-gone (Syntax.tyRef Syntax.erased Syntax.mut (Syntax.tyInt Syntax.w64))) (List._∷_ (14, Rows.any-gone (Syntax.tyStruct (List._∷_ 38 (List._∷_ 91 (List._∷_ 93 List.[]))) (Syntax.tcons (Syntax.tyRef Syntax.erased Syntax.mut (Syntax.tyInt Syntax.w64)) (Syntax.tcons (Syntax.tyInt Syntax.w64) Syntax.tnil)))) (List._∷_ (15, Rows.any-gone Syntax.tyBool) List.[])))))))))))))))
 
 abbrev pub t18 : List.List Row.Entry
-t18 = List._∷_ (0, Rows.any-gone (Syntax.tyStruct (List._∷_ 114 (List._∷_ 117 (List._∷_ 108 (List._∷_ 101 (List._∷_ 115 (List._∷_ 58 (List._∷_ 58 (List._∷_ 65 (List._∷_ 110 (List._∷_ 115 (List._∷_ 119 (List._∷_ 101 (List._∷_ 114 List.[]))))))))))))) (Syntax.tcons (Syntax.tyEnum (List._∷_ 114 (List._∷_ 117 (List._∷_ 108 (List._∷_ 101 (List._∷_ 115 (List._∷_ 58 (List._∷_ 58 (List._∷_ 79 (List._∷_ 117 (List._∷_ 116 (List._∷_ 99 (List._∷_ 111 (List._∷_ 109 (List._∷_ 101 List.[])))))))))))))) (Syntax.ttcons Syntax.tnil (Syntax.ttcons (Syntax.tcons (Syntax.tyInt Syntax.w16) Syntax.tnil) (Syntax.ttcons (Syntax.tcons (Syntax.tyInt Syntax.w16) Syntax.tnil) Syntax.ttnil)))) (Syntax.tcons (Syntax.tyInt Syntax.w64) (Syntax.tcons (Syntax.tyInt Syntax.w64) Syntax.tnil))))) (List._∷_ (1, Rows.sslice (Referent.rtF (Referent.fInt Syntax.w8)) (Syntax.tyRef (Syntax.named 0) Syntax.imm (Syntax.tyInt Syntax.w8)) 0) (List._∷_ (2, Rows.sc-here (Row.sInt Syntax.w64)) (List._∷_ (3, Rows.sc-here Row.sBool) (List._∷_ (4, Mut.mslice (Referent.rtF (Referent.fInt Syntax.w64)) (Syntax.tyRef (Syntax.named 1) Syntax.mut (Syntax.tyInt Syntax.w64)) 1) (List._∷_ (5, Rows.mref Lent.R (Syntax.tyRef (Syntax.named 2) Syntax.mut Lent.refS) 2) (List._∷_ (6, Rows.sc-here Row.sBool) (List._∷_ (7, Rows.any-gone (Syntax.tyStruct (List._∷_ 112 (List._∷_ 111 (List._∷_ 115 (List._∷_ 105 (List._∷_ 116 (List._∷_ 105 (List._∷_ 111 (List._∷_ 110 (List._∷_ 58 (List._∷_ 58 (List._∷_ 80 (List._∷_ 111 (List._∷_ 115 (List._∷_ 105 (List._∷_ 116 (List._∷_ 105 (List._∷_ 111 (List._∷_ 110 (List._∷_ 83 (List._∷_ 121 (List._∷_ 110 (List._∷_ 116 (List._∷_ 97 (List._∷_ 120 List.[])))))))))))))))))))))))) (Syntax.tcons Syntax.tyBool (Syntax.tcons Syntax.tyBool (Syntax.tcons (Syntax.tyInt Syntax.w64) (Syntax.tcons (Syntax.tyInt Syntax.w64) (Syntax.tcons (Syntax.tyInt Syntax.w64) (Syntax.tcons Syntax.tyBool Syntax.tnil)))))))) (List._∷_ (8, Rows.any-gone (Syntax.tyStruct (List._∷_ 112 (List._∷_ 111 (List._∷_ 115 (List._∷_ 105 (List._∷_ 116 (List._∷_ 105 (List._∷_ 111 (List._∷_ 110 (List._∷_ 58 (List._∷_ 58 (List._∷_ 80 (List._∷_ 111 (List._∷_ 115 (List._∷_ 105 (List._∷_ 116 (List._∷_ 105 (List._∷_ 111 (List._∷_ 110 (List._∷_ 65 (List._∷_ 110 (List._∷_ 115 (List._∷_ 119 (List._∷_ 101 (List._∷_ 114 List.[])))))))))))))))))))))))) (Syntax.tcons (Syntax.tyStruct (List._∷_ 114 (List._∷_ 117 (List._∷_ 108 (List._∷_ 101 (List._∷_ 115 (List._∷_ 58 (List._∷_ 58 (List._∷_ 65 (List._∷_ 110 (List._∷_ 115 (List._∷_ 119 (List._∷_ 101 (List._∷_ 114 List.[]))))))))))))) (Syntax.tcons (Syntax.tyEnum (List._∷_ 114 (List._∷_ 117 (List._∷_ 108 (List._∷_ 101 (List._∷_ 115 (List._∷_ 58 (List._∷_ 58 (List._∷_ 79 (List._∷_ 117 (List._∷_ 116 (List._∷_ 99 (List._∷_ 111 (List._∷_ 109 (List._∷_ 101 List.[])))))))))))))) (Syntax.ttcons Syntax.tnil (Syntax.ttcons (Syntax.tcons (Syntax.tyInt Syntax.w16) Syntax.tnil) (Syntax.ttcons (Syntax.tcons (Syntax.tyInt Syntax.w16) Syntax.tnil) Syntax.ttnil)))) (Syntax.tcons (Syntax.tyInt Syntax.w64) (Syntax.tcons (Syntax.tyInt Syntax.w64) Syntax.tnil)))) (Syntax.tcons (Syntax.tyStruct (List._∷_ 112 (List._∷_ 111 (List._∷_ 115 (List._∷_ 105 (List._∷_ 116 (List._∷_ 105 (List._∷_ 111 (List._∷_ 110 (List._∷_ 58 (List._∷_ 58 (List._∷_ 80 (List._∷_ 111 (List._∷_ 115 (List._∷_ 105 (List._∷_ 116 (List._∷_ 105 (List._∷_ 111 (List._∷_ 110 (List._∷_ 83 (List._∷_ 121 (List._∷_ 110 (List._∷_ 116 (List._∷_ 97 (List._∷_ 120 List.[])))))))))))))))))))))))) (Syntax.tcons Syntax.tyBool (Syntax.tcons Syntax.tyBool (Syntax.tcons (Syntax.tyInt Syntax.w64) (Syntax.tcons (Syntax.tyInt Syntax.w64) (Syntax.tcons (Syntax.tyInt Syntax.w64) (Syntax.tcons Syntax.tyBool Syntax.tnil))))))) Syntax.tnil)))) (List._∷_ (9, Rows.whole (Declared'.row Answer.the-type)) (List._∷_ (10, Rows.any-gone (Syntax.tyEnum (List._∷_ 114 (List._∷_ 117 (List._∷_ 108 (List._∷_ 101 (List._∷_ 115 (List._∷_ 58 (List._∷_ 58 (List._∷_ 79 (List._∷_ 117 (List._∷_ 116 (List._∷_ 99 (List._∷_ 111 (List._∷_ 109 (List._∷_ 101 List.[])))))))))))))) (Syntax.ttcons Syntax.tnil (Syntax.ttcons (Syntax.tcons (Syntax.tyInt Syntax.w16) Syntax.tnil) (Syntax.ttcons (Syntax.tcons (Syntax.tyInt Syntax.w16) Syntax.tnil) Syntax.ttnil))))) (List._∷_ (11, Rows.whole (Declared'.row PositionSyntax.the-type)) (List._∷_ (12, Rows.any-gone (Syntax.tyRef Syntax.erased Syntax.imm Lent.refS)) (List._∷_ (13, Rows.any-gone (Syntax.tyRef Syntax.erased Syntax.mut (Syntax.tyInt Syntax.w64))) (List._∷_ (14, Rows.any-gone (Syntax.tyStruct (List._∷_ 38 (List._∷_ 91 (List._∷_ 93 List.[]))) (Syntax.tcons (Syntax.tyRef Syntax.erased Syntax.mut (Syntax.tyInt Syntax.w64)) (Syntax.tcons (Syntax.tyInt Syntax.w64) Syntax.tnil)))) (List._∷_ (15, Rows.any-gone Syntax.tyBool) List.[])))))))))))))))
+t18 = List._∷_ (0, Rows.any-gone (Syntax.tyStruct (List._∷_ 114 (List._∷_ 117 (List._∷_ 108 (List._∷_ 101 (List._∷_ 115 (List._∷_ 58 (List._∷_ 58 (List._∷_ 65 (List._∷_ 110 (List._∷_ 115 (List._∷_ 119 (List._∷_ 101 (List._∷_ 114 List.[]))))))))))))) (Syntax.tcons (Syntax.tyEnum (List._∷_ 114 (List._∷_ 117 (List._∷_ 108 (List._∷_ 101 (List._∷_ 115 (List._∷_ 58 (List._∷_ 58 (List._∷_ 79 (List._∷_ 117 (List._∷_ 116 (List._∷_ 99 (List._∷_ 111 (List._∷_ 109 (List._∷_ 101 List.[])))))))))))))) (Syntax.ttcons Syntax.tnil (Syntax.ttcons (Syntax.tcons (Syntax.tyInt Syntax.w16) Syntax.tnil) (Syntax.ttcons (Syntax.tcons (Syntax.tyInt Syntax.w16) Syntax.tnil) Syntax.ttnil)))) (Syntax.tcons (Syntax.tyInt Syntax.w64) (Syntax.tcons (Syntax.tyInt Syntax.w64) Syntax.tnil))))) (List._∷_ (1, Rows.sslice (Referent.rtF (Referent.fInt Syntax.w8)) (Syntax.tyRef (Syntax.named 0) Syntax.imm (Syntax.tyInt Syntax.w8)) 0) (List._∷_ (2, Rows.sc-here (Row.sInt Syntax.w64)) (List._∷_ (3, Rows.sc-here Row.sBool) (List._∷_ (4, Mut.mslice (Referent.rtF (Referent.fInt Syntax.w64)) (Syntax.tyRef (Syntax.named 1) Syntax.mut (Syntax.tyInt Syntax.w64)) 1) (List._∷_ (5, Rows.mref Lent.R (Syntax.tyRef (Syntax.named 2) Syntax.mut Lent.refS) 2) (List._∷_ (6, Rows.sc-here Row.sBool) (List._∷_ (7, Rows.any-gone (Syntax.tyStruct (List._∷_ 112 (List._∷_ 111 (List._∷_ 115 (List._∷_ 105 (List._∷_ 116 (List._∷_ 105 (List._∷_ 111 (List._∷_ 110 (List._∷_ 58 (List._∷_ 58 (List._∷_ 80 (List._∷_ 111 (List._∷_ 115 (List._∷_ 105 (List._∷_ 116 (List._∷_ 105 (List._∷_ 111 (List._∷_ 110 (List._∷_ 83 (List._∷_ 121 (List._∷_ 110 (List._∷_ 116 (List._∷_ 97 (List._∷_ 120 List.[])))))))))))))))))))))))) (Syntax.tcons Syntax.tyBool (Syntax.tcons Syntax.tyBool (Syntax.tcons (Syntax.tyInt Syntax.w64) (Syntax.tcons (Syntax.tyInt Syntax.w64) (Syntax.tcons (Syntax.tyInt Syntax.w64) (Syntax.tcons Syntax.tyBool Syntax.tnil)))))))) (List._∷_ (8, Rows.any-gone (Syntax.tyStruct (List._∷_ 112 (List._∷_ 111 (List._∷_ 115 (List._∷_ 105 (List._∷_ 116 (List._∷_ 105 (List._∷_ 111 (List._∷_ 110 (List._∷_ 95 (List._∷_ 97 (List._∷_ 108 (List._∷_ 111 (List._∷_ 110 (List._∷_ 101 (List._∷_ 58 (List._∷_ 58 (List._∷_ 80 (List._∷_ 111 (List._∷_ 115 (List._∷_ 105 (List._∷_ 116 (List._∷_ 105 (List._∷_ 111 (List._∷_ 110 (List._∷_ 65 (List._∷_ 110 (List._∷_ 115 (List._∷_ 119 (List._∷_ 101 (List._∷_ 114 List.[])))))))))))))))))))))))))))))) (Syntax.tcons (Syntax.tyStruct (List._∷_ 114 (List._∷_ 117 (List._∷_ 108 (List._∷_ 101 (List._∷_ 115 (List._∷_ 58 (List._∷_ 58 (List._∷_ 65 (List._∷_ 110 (List._∷_ 115 (List._∷_ 119 (List._∷_ 101 (List._∷_ 114 List.[]))))))))))))) (Syntax.tcons (Syntax.tyEnum (List._∷_ 114 (List._∷_ 117 (List._∷_ 108 (List._∷_ 101 (List._∷_ 115 (List._∷_ 58 (List._∷_ 58 (List._∷_ 79 (List._∷_ 117 (List._∷_ 116 (List._∷_ 99 (List._∷_ 111 (List._∷_ 109 (List._∷_ 101 List.[])))))))))))))) (Syntax.ttcons Syntax.tnil (Syntax.ttcons (Syntax.tcons (Syntax.tyInt Syntax.w16) Syntax.tnil) (Syntax.ttcons (Syntax.tcons (Syntax.tyInt Syntax.w16) Syntax.tnil) Syntax.ttnil)))) (Syntax.tcons (Syntax.tyInt Syntax.w64) (Syntax.tcons (Syntax.tyInt Syntax.w64) Syntax.tnil)))) (Syntax.tcons (Syntax.tyStruct (List._∷_ 112 (List._∷_ 111 (List._∷_ 115 (List._∷_ 105 (List._∷_ 116 (List._∷_ 105 (List._∷_ 111 (List._∷_ 110 (List._∷_ 58 (List._∷_ 58 (List._∷_ 80 (List._∷_ 111 (List._∷_ 115 (List._∷_ 105 (List._∷_ 116 (List._∷_ 105 (List._∷_ 111 (List._∷_ 110 (List._∷_ 83 (List._∷_ 121 (List._∷_ 110 (List._∷_ 116 (List._∷_ 97 (List._∷_ 120 List.[])))))))))))))))))))))))) (Syntax.tcons Syntax.tyBool (Syntax.tcons Syntax.tyBool (Syntax.tcons (Syntax.tyInt Syntax.w64) (Syntax.tcons (Syntax.tyInt Syntax.w64) (Syntax.tcons (Syntax.tyInt Syntax.w64) (Syntax.tcons Syntax.tyBool Syntax.tnil))))))) Syntax.tnil)))) (List._∷_ (9, Rows.whole (Declared'.row Answer.the-type)) (List._∷_ (10, Rows.any-gone (Syntax.tyEnum (List._∷_ 114 (List._∷_ 117 (List._∷_ 108 (List._∷_ 101 (List._∷_ 115 (List._∷_ 58 (List._∷_ 58 (List._∷_ 79 (List._∷_ 117 (List._∷_ 116 (List._∷_ 99 (List._∷_ 111 (List._∷_ 109 (List._∷_ 101 List.[])))))))))))))) (Syntax.ttcons Syntax.tnil (Syntax.ttcons (Syntax.tcons (Syntax.tyInt Syntax.w16) Syntax.tnil) (Syntax.ttcons (Syntax.tcons (Syntax.tyInt Syntax.w16) Syntax.tnil) Syntax.ttnil))))) (List._∷_ (11, Rows.whole (Declared'.row PositionSyntax.the-type)) (List._∷_ (12, Rows.any-gone (Syntax.tyRef Syntax.erased Syntax.imm Lent.refS)) (List._∷_ (13, Rows.any-gone (Syntax.tyRef Syntax.erased Syntax.mut (Syntax.tyInt Syntax.w64))) (List._∷_ (14, Rows.any-gone (Syntax.tyStruct (List._∷_ 38 (List._∷_ 91 (List._∷_ 93 List.[]))) (Syntax.tcons (Syntax.tyRef Syntax.erased Syntax.mut (Syntax.tyInt Syntax.w64)) (Syntax.tcons (Syntax.tyInt Syntax.w64) Syntax.tnil)))) (List._∷_ (15, Rows.any-gone Syntax.tyBool) List.[])))))))))))))))
 
 abbrev pub t19 : List.List Row.Entry
-t19 = List._∷_ (0, Rows.any-gone (Syntax.tyStruct (List._∷_ 114 (List._∷_ 117 (List._∷_ 108 (List._∷_ 101 (List._∷_ 115 (List._∷_ 58 (List._∷_ 58 (List._∷_ 65 (List._∷_ 110 (List._∷_ 115 (List._∷_ 119 (List._∷_ 101 (List._∷_ 114 List.[]))))))))))))) (Syntax.tcons (Syntax.tyEnum (List._∷_ 114 (List._∷_ 117 (List._∷_ 108 (List._∷_ 101 (List._∷_ 115 (List._∷_ 58 (List._∷_ 58 (List._∷_ 79 (List._∷_ 117 (List._∷_ 116 (List._∷_ 99 (List._∷_ 111 (List._∷_ 109 (List._∷_ 101 List.[])))))))))))))) (Syntax.ttcons Syntax.tnil (Syntax.ttcons (Syntax.tcons (Syntax.tyInt Syntax.w16) Syntax.tnil) (Syntax.ttcons (Syntax.tcons (Syntax.tyInt Syntax.w16) Syntax.tnil) Syntax.ttnil)))) (Syntax.tcons (Syntax.tyInt Syntax.w64) (Syntax.tcons (Syntax.tyInt Syntax.w64) Syntax.tnil))))) (List._∷_ (1, Rows.sslice (Referent.rtF (Referent.fInt Syntax.w8)) (Syntax.tyRef (Syntax.named 0) Syntax.imm (Syntax.tyInt Syntax.w8)) 0) (List._∷_ (2, Rows.sc-here (Row.sInt Syntax.w64)) (List._∷_ (3, Rows.sc-here Row.sBool) (List._∷_ (4, Mut.mslice (Referent.rtF (Referent.fInt Syntax.w64)) (Syntax.tyRef (Syntax.named 1) Syntax.mut (Syntax.tyInt Syntax.w64)) 1) (List._∷_ (5, Rows.mref-owed Lent.R (Syntax.tyRef (Syntax.named 2) Syntax.mut Lent.refS) 2 5 Row.off) (List._∷_ (6, Rows.sc-here Row.sBool) (List._∷_ (7, Rows.any-gone (Syntax.tyStruct (List._∷_ 112 (List._∷_ 111 (List._∷_ 115 (List._∷_ 105 (List._∷_ 116 (List._∷_ 105 (List._∷_ 111 (List._∷_ 110 (List._∷_ 58 (List._∷_ 58 (List._∷_ 80 (List._∷_ 111 (List._∷_ 115 (List._∷_ 105 (List._∷_ 116 (List._∷_ 105 (List._∷_ 111 (List._∷_ 110 (List._∷_ 83 (List._∷_ 121 (List._∷_ 110 (List._∷_ 116 (List._∷_ 97 (List._∷_ 120 List.[])))))))))))))))))))))))) (Syntax.tcons Syntax.tyBool (Syntax.tcons Syntax.tyBool (Syntax.tcons (Syntax.tyInt Syntax.w64) (Syntax.tcons (Syntax.tyInt Syntax.w64) (Syntax.tcons (Syntax.tyInt Syntax.w64) (Syntax.tcons Syntax.tyBool Syntax.tnil)))))))) (List._∷_ (8, Rows.any-gone (Syntax.tyStruct (List._∷_ 112 (List._∷_ 111 (List._∷_ 115 (List._∷_ 105 (List._∷_ 116 (List._∷_ 105 (List._∷_ 111 (List._∷_ 110 (List._∷_ 58 (List._∷_ 58 (List._∷_ 80 (List._∷_ 111 (List._∷_ 115 (List._∷_ 105 (List._∷_ 116 (List._∷_ 105 (List._∷_ 111 (List._∷_ 110 (List._∷_ 65 (List._∷_ 110 (List._∷_ 115 (List._∷_ 119 (List._∷_ 101 (List._∷_ 114 List.[])))))))))))))))))))))))) (Syntax.tcons (Syntax.tyStruct (List._∷_ 114 (List._∷_ 117 (List._∷_ 108 (List._∷_ 101 (List._∷_ 115 (List._∷_ 58 (List._∷_ 58 (List._∷_ 65 (List._∷_ 110 (List._∷_ 115 (List._∷_ 119 (List._∷_ 101 (List._∷_ 114 List.[]))))))))))))) (Syntax.tcons (Syntax.tyEnum (List._∷_ 114 (List._∷_ 117 (List._∷_ 108 (List._∷_ 101 (List._∷_ 115 (List._∷_ 58 (List._∷_ 58 (List._∷_ 79 (List._∷_ 117 (List._∷_ 116 (List._∷_ 99 (List._∷_ 111 (List._∷_ 109 (List._∷_ 101 List.[])))))))))))))) (Syntax.ttcons Syntax.tnil (Syntax.ttcons (Syntax.tcons (Syntax.tyInt Syntax.w16) Syntax.tnil) (Syntax.ttcons (Syntax.tcons (Syntax.tyInt Syntax.w16) Syntax.tnil) Syntax.ttnil)))) (Syntax.tcons (Syntax.tyInt Syntax.w64) (Syntax.tcons (Syntax.tyInt Syntax.w64) Syntax.tnil)))) (Syntax.tcons (Syntax.tyStruct (List._∷_ 112 (List._∷_ 111 (List._∷_ 115 (List._∷_ 105 (List._∷_ 116 (List._∷_ 105 (List._∷_ 111 (List._∷_ 110 (List._∷_ 58 (List._∷_ 58 (List._∷_ 80 (List._∷_ 111 (List._∷_ 115 (List._∷_ 105 (List._∷_ 116 (List._∷_ 105 (List._∷_ 111 (List._∷_ 110 (List._∷_ 83 (List._∷_ 121 (List._∷_ 110 (List._∷_ 116 (List._∷_ 97 (List._∷_ 120 List.[])))))))))))))))))))))))) (Syntax.tcons Syntax.tyBool (Syntax.tcons Syntax.tyBool (Syntax.tcons (Syntax.tyInt Syntax.w64) (Syntax.tcons (Syntax.tyInt Syntax.w64) (Syntax.tcons (Syntax.tyInt Syntax.w64) (Syntax.tcons Syntax.tyBool Syntax.tnil))))))) Syntax.tnil)))) (List._∷_ (9, Rows.whole (Declared'.row Answer.the-type)) (List._∷_ (10, Rows.any-gone (Syntax.tyEnum (List._∷_ 114 (List._∷_ 117 (List._∷_ 108 (List._∷_ 101 (List._∷_ 115 (List._∷_ 58 (List._∷_ 58 (List._∷_ 79 (List._∷_ 117 (List._∷_ 116 (List._∷_ 99 (List._∷_ 111 (List._∷_ 109 (List._∷_ 101 List.[])))))))))))))) (Syntax.ttcons Syntax.tnil (Syntax.ttcons (Syntax.tcons (Syntax.tyInt Syntax.w16) Syntax.tnil) (Syntax.ttcons (Syntax.tcons (Syntax.tyInt Syntax.w16) Syntax.tnil) Syntax.ttnil))))) (List._∷_ (11, Rows.whole (Declared'.row PositionSyntax.the-type)) (List._∷_ (12, Rows.any-gone (Syntax.tyRef Syntax.erased Syntax.imm Lent.refS)) (List._∷_ (13, Rows.any-gone (Syntax.tyRef Syntax.erased Syntax.mut (Syntax.tyInt Syntax.w64))) (List._∷_ (14, Rows.any-gone (Syntax.tyStruct (List._∷_ 38 (List._∷_ 91 (List._∷_ 93 List.[]))) (Syntax.tcons (Syntax.tyRef Syntax.erased Syntax.mut (Syntax.tyInt Syntax.w64)) (Syntax.tcons (Syntax.tyInt Syntax.w64) Syntax.tnil)))) (List._∷_ (15, Rows.any-gone Syntax.tyBool) List.[])))))))))))))))
+t19 = List._∷_ (0, Rows.any-gone (Syntax.tyStruct (List._∷_ 114 (List._∷_ 117 (List._∷_ 108 (List._∷_ 101 (List._∷_ 115 (List._∷_ 58 (List._∷_ 58 (List._∷_ 65 (List._∷_ 110 (List._∷_ 115 (List._∷_ 119 (List._∷_ 101 (List._∷_ 114 List.[]))))))))))))) (Syntax.tcons (Syntax.tyEnum (List._∷_ 114 (List._∷_ 117 (List._∷_ 108 (List._∷_ 101 (List._∷_ 115 (List._∷_ 58 (List._∷_ 58 (List._∷_ 79 (List._∷_ 117 (List._∷_ 116 (List._∷_ 99 (List._∷_ 111 (List._∷_ 109 (List._∷_ 101 List.[])))))))))))))) (Syntax.ttcons Syntax.tnil (Syntax.ttcons (Syntax.tcons (Syntax.tyInt Syntax.w16) Syntax.tnil) (Syntax.ttcons (Syntax.tcons (Syntax.tyInt Syntax.w16) Syntax.tnil) Syntax.ttnil)))) (Syntax.tcons (Syntax.tyInt Syntax.w64) (Syntax.tcons (Syntax.tyInt Syntax.w64) Syntax.tnil))))) (List._∷_ (1, Rows.sslice (Referent.rtF (Referent.fInt Syntax.w8)) (Syntax.tyRef (Syntax.named 0) Syntax.imm (Syntax.tyInt Syntax.w8)) 0) (List._∷_ (2, Rows.sc-here (Row.sInt Syntax.w64)) (List._∷_ (3, Rows.sc-here Row.sBool) (List._∷_ (4, Mut.mslice (Referent.rtF (Referent.fInt Syntax.w64)) (Syntax.tyRef (Syntax.named 1) Syntax.mut (Syntax.tyInt Syntax.w64)) 1) (List._∷_ (5, Rows.mref-owed Lent.R (Syntax.tyRef (Syntax.named 2) Syntax.mut Lent.refS) 2 5 Row.off) (List._∷_ (6, Rows.sc-here Row.sBool) (List._∷_ (7, Rows.any-gone (Syntax.tyStruct (List._∷_ 112 (List._∷_ 111 (List._∷_ 115 (List._∷_ 105 (List._∷_ 116 (List._∷_ 105 (List._∷_ 111 (List._∷_ 110 (List._∷_ 58 (List._∷_ 58 (List._∷_ 80 (List._∷_ 111 (List._∷_ 115 (List._∷_ 105 (List._∷_ 116 (List._∷_ 105 (List._∷_ 111 (List._∷_ 110 (List._∷_ 83 (List._∷_ 121 (List._∷_ 110 (List._∷_ 116 (List._∷_ 97 (List._∷_ 120 List.[])))))))))))))))))))))))) (Syntax.tcons Syntax.tyBool (Syntax.tcons Syntax.tyBool (Syntax.tcons (Syntax.tyInt Syntax.w64) (Syntax.tcons (Syntax.tyInt Syntax.w64) (Syntax.tcons (Syntax.tyInt Syntax.w64) (Syntax.tcons Syntax.tyBool Syntax.tnil)))))))) (List._∷_ (8, Rows.any-gone (Syntax.tyStruct (List._∷_ 112 (List._∷_ 111 (List._∷_ 115 (List._∷_ 105 (List._∷_ 116 (List._∷_ 105 (List._∷_ 111 (List._∷_ 110 (List._∷_ 95 (List._∷_ 97 (List._∷_ 108 (List._∷_ 111 (List._∷_ 110 (List._∷_ 101 (List._∷_ 58 (List._∷_ 58 (List._∷_ 80 (List._∷_ 111 (List._∷_ 115 (List._∷_ 105 (List._∷_ 116 (List._∷_ 105 (List._∷_ 111 (List._∷_ 110 (List._∷_ 65 (List._∷_ 110 (List._∷_ 115 (List._∷_ 119 (List._∷_ 101 (List._∷_ 114 List.[])))))))))))))))))))))))))))))) (Syntax.tcons (Syntax.tyStruct (List._∷_ 114 (List._∷_ 117 (List._∷_ 108 (List._∷_ 101 (List._∷_ 115 (List._∷_ 58 (List._∷_ 58 (List._∷_ 65 (List._∷_ 110 (List._∷_ 115 (List._∷_ 119 (List._∷_ 101 (List._∷_ 114 List.[]))))))))))))) (Syntax.tcons (Syntax.tyEnum (List._∷_ 114 (List._∷_ 117 (List._∷_ 108 (List._∷_ 101 (List._∷_ 115 (List._∷_ 58 (List._∷_ 58 (List._∷_ 79 (List._∷_ 117 (List._∷_ 116 (List._∷_ 99 (List._∷_ 111 (List._∷_ 109 (List._∷_ 101 List.[])))))))))))))) (Syntax.ttcons Syntax.tnil (Syntax.ttcons (Syntax.tcons (Syntax.tyInt Syntax.w16) Syntax.tnil) (Syntax.ttcons (Syntax.tcons (Syntax.tyInt Syntax.w16) Syntax.tnil) Syntax.ttnil)))) (Syntax.tcons (Syntax.tyInt Syntax.w64) (Syntax.tcons (Syntax.tyInt Syntax.w64) Syntax.tnil)))) (Syntax.tcons (Syntax.tyStruct (List._∷_ 112 (List._∷_ 111 (List._∷_ 115 (List._∷_ 105 (List._∷_ 116 (List._∷_ 105 (List._∷_ 111 (List._∷_ 110 (List._∷_ 58 (List._∷_ 58 (List._∷_ 80 (List._∷_ 111 (List._∷_ 115 (List._∷_ 105 (List._∷_ 116 (List._∷_ 105 (List._∷_ 111 (List._∷_ 110 (List._∷_ 83 (List._∷_ 121 (List._∷_ 110 (List._∷_ 116 (List._∷_ 97 (List._∷_ 120 List.[])))))))))))))))))))))))) (Syntax.tcons Syntax.tyBool (Syntax.tcons Syntax.tyBool (Syntax.tcons (Syntax.tyInt Syntax.w64) (Syntax.tcons (Syntax.tyInt Syntax.w64) (Syntax.tcons (Syntax.tyInt Syntax.w64) (Syntax.tcons Syntax.tyBool Syntax.tnil))))))) Syntax.tnil)))) (List._∷_ (9, Rows.whole (Declared'.row Answer.the-type)) (List._∷_ (10, Rows.any-gone (Syntax.tyEnum (List._∷_ 114 (List._∷_ 117 (List._∷_ 108 (List._∷_ 101 (List._∷_ 115 (List._∷_ 58 (List._∷_ 58 (List._∷_ 79 (List._∷_ 117 (List._∷_ 116 (List._∷_ 99 (List._∷_ 111 (List._∷_ 109 (List._∷_ 101 List.[])))))))))))))) (Syntax.ttcons Syntax.tnil (Syntax.ttcons (Syntax.tcons (Syntax.tyInt Syntax.w16) Syntax.tnil) (Syntax.ttcons (Syntax.tcons (Syntax.tyInt Syntax.w16) Syntax.tnil) Syntax.ttnil))))) (List._∷_ (11, Rows.whole (Declared'.row PositionSyntax.the-type)) (List._∷_ (12, Rows.any-gone (Syntax.tyRef Syntax.erased Syntax.imm Lent.refS)) (List._∷_ (13, Rows.any-gone (Syntax.tyRef Syntax.erased Syntax.mut (Syntax.tyInt Syntax.w64))) (List._∷_ (14, Rows.any-gone (Syntax.tyStruct (List._∷_ 38 (List._∷_ 91 (List._∷_ 93 List.[]))) (Syntax.tcons (Syntax.tyRef Syntax.erased Syntax.mut (Syntax.tyInt Syntax.w64)) (Syntax.tcons (Syntax.tyInt Syntax.w64) Syntax.tnil)))) (List._∷_ (15, Rows.any-gone Syntax.tyBool) List.[])))))))))))))))
 
 abbrev pub t20 : List.List Row.Entry
 t20 = List._∷_ (16, Rows.any-gone Syntax.tyUnit) (List._∷_ (17, Rows.mref Lent.R (Syntax.tyRef Syntax.erased Syntax.mut Lent.refS) 5) List.[])
@@ -267,25 +267,25 @@ abbrev pub t21 : List.List Row.Entry
 t21 = List._∷_ (16, Rows.sc-here Row.sUnit) (List._∷_ (17, Rows.mleft Lent.R (Syntax.tyRef Syntax.erased Syntax.mut Lent.refS)) List.[])
 
 abbrev pub t22 : List.List Row.Entry
-t22 = List._∷_ (0, Rows.any-gone (Syntax.tyStruct (List._∷_ 114 (List._∷_ 117 (List._∷_ 108 (List._∷_ 101 (List._∷_ 115 (List._∷_ 58 (List._∷_ 58 (List._∷_ 65 (List._∷_ 110 (List._∷_ 115 (List._∷_ 119 (List._∷_ 101 (List._∷_ 114 List.[]))))))))))))) (Syntax.tcons (Syntax.tyEnum (List._∷_ 114 (List._∷_ 117 (List._∷_ 108 (List._∷_ 101 (List._∷_ 115 (List._∷_ 58 (List._∷_ 58 (List._∷_ 79 (List._∷_ 117 (List._∷_ 116 (List._∷_ 99 (List._∷_ 111 (List._∷_ 109 (List._∷_ 101 List.[])))))))))))))) (Syntax.ttcons Syntax.tnil (Syntax.ttcons (Syntax.tcons (Syntax.tyInt Syntax.w16) Syntax.tnil) (Syntax.ttcons (Syntax.tcons (Syntax.tyInt Syntax.w16) Syntax.tnil) Syntax.ttnil)))) (Syntax.tcons (Syntax.tyInt Syntax.w64) (Syntax.tcons (Syntax.tyInt Syntax.w64) Syntax.tnil))))) (List._∷_ (1, Rows.sslice (Referent.rtF (Referent.fInt Syntax.w8)) (Syntax.tyRef (Syntax.named 0) Syntax.imm (Syntax.tyInt Syntax.w8)) 0) (List._∷_ (2, Rows.sc-here (Row.sInt Syntax.w64)) (List._∷_ (3, Rows.sc-here Row.sBool) (List._∷_ (4, Mut.mslice (Referent.rtF (Referent.fInt Syntax.w64)) (Syntax.tyRef (Syntax.named 1) Syntax.mut (Syntax.tyInt Syntax.w64)) 1) (List._∷_ (5, Rows.mref-owed Lent.R (Syntax.tyRef (Syntax.named 2) Syntax.mut Lent.refS) 2 5 Row.off) (List._∷_ (6, Rows.sc-here Row.sBool) (List._∷_ (7, Rows.any-gone (Syntax.tyStruct (List._∷_ 112 (List._∷_ 111 (List._∷_ 115 (List._∷_ 105 (List._∷_ 116 (List._∷_ 105 (List._∷_ 111 (List._∷_ 110 (List._∷_ 58 (List._∷_ 58 (List._∷_ 80 (List._∷_ 111 (List._∷_ 115 (List._∷_ 105 (List._∷_ 116 (List._∷_ 105 (List._∷_ 111 (List._∷_ 110 (List._∷_ 83 (List._∷_ 121 (List._∷_ 110 (List._∷_ 116 (List._∷_ 97 (List._∷_ 120 List.[])))))))))))))))))))))))) (Syntax.tcons Syntax.tyBool (Syntax.tcons Syntax.tyBool (Syntax.tcons (Syntax.tyInt Syntax.w64) (Syntax.tcons (Syntax.tyInt Syntax.w64) (Syntax.tcons (Syntax.tyInt Syntax.w64) (Syntax.tcons Syntax.tyBool Syntax.tnil)))))))) (List._∷_ (8, Rows.any-gone (Syntax.tyStruct (List._∷_ 112 (List._∷_ 111 (List._∷_ 115 (List._∷_ 105 (List._∷_ 116 (List._∷_ 105 (List._∷_ 111 (List._∷_ 110 (List._∷_ 58 (List._∷_ 58 (List._∷_ 80 (List._∷_ 111 (List._∷_ 115 (List._∷_ 105 (List._∷_ 116 (List._∷_ 105 (List._∷_ 111 (List._∷_ 110 (List._∷_ 65 (List._∷_ 110 (List._∷_ 115 (List._∷_ 119 (List._∷_ 101 (List._∷_ 114 List.[])))))))))))))))))))))))) (Syntax.tcons (Syntax.tyStruct (List._∷_ 114 (List._∷_ 117 (List._∷_ 108 (List._∷_ 101 (List._∷_ 115 (List._∷_ 58 (List._∷_ 58 (List._∷_ 65 (List._∷_ 110 (List._∷_ 115 (List._∷_ 119 (List._∷_ 101 (List._∷_ 114 List.[]))))))))))))) (Syntax.tcons (Syntax.tyEnum (List._∷_ 114 (List._∷_ 117 (List._∷_ 108 (List._∷_ 101 (List._∷_ 115 (List._∷_ 58 (List._∷_ 58 (List._∷_ 79 (List._∷_ 117 (List._∷_ 116 (List._∷_ 99 (List._∷_ 111 (List._∷_ 109 (List._∷_ 101 List.[])))))))))))))) (Syntax.ttcons Syntax.tnil (Syntax.ttcons (Syntax.tcons (Syntax.tyInt Syntax.w16) Syntax.tnil) (Syntax.ttcons (Syntax.tcons (Syntax.tyInt Syntax.w16) Syntax.tnil) Syntax.ttnil)))) (Syntax.tcons (Syntax.tyInt Syntax.w64) (Syntax.tcons (Syntax.tyInt Syntax.w64) Syntax.tnil)))) (Syntax.tcons (Syntax.tyStruct (List._∷_ 112 (List._∷_ 111 (List._∷_ 115 (List._∷_ 105 (List._∷_ 116 (List._∷_ 105 (List._∷_ 111 (List._∷_ 110 (List._∷_ 58 (List._∷_ 58 (List._∷_ 80 (List._∷_ 111 (List._∷_ 115 (List._∷_ 105 (List._∷_ 116 (List._∷_ 105 (List._∷_ 111 (List._∷_ 110 (List._∷_ 83 (List._∷_ 121 (List._∷_ 110 (List._∷_ 116 (List._∷_ 97 (List._∷_ 120 List.[])))))))))))))))))))))))) (Syntax.tcons Syntax.tyBool (Syntax.tcons Syntax.tyBool (Syntax.tcons (Syntax.tyInt Syntax.w64) (Syntax.tcons (Syntax.tyInt Syntax.w64) (Syntax.tcons (Syntax.tyInt Syntax.w64) (Syntax.tcons Syntax.tyBool Syntax.tnil))))))) Syntax.tnil)))) (List._∷_ (9, Rows.whole (Declared'.row Answer.the-type)) (List._∷_ (10, Rows.any-gone (Syntax.tyEnum (List._∷_ 114 (List._∷_ 117 (List._∷_ 108 (List._∷_ 101 (List._∷_ 115 (List._∷_ 58 (List._∷_ 58 (List._∷_ 79 (List._∷_ 117 (List._∷_ 116 (List._∷_ 99 (List._∷_ 111 (List._∷_ 109 (List._∷_ 101 List.[])))))))))))))) (Syntax.ttcons Syntax.tnil (Syntax.ttcons (Syntax.tcons (Syntax.tyInt Syntax.w16) Syntax.tnil) (Syntax.ttcons (Syntax.tcons (Syntax.tyInt Syntax.w16) Syntax.tnil) Syntax.ttnil))))) (List._∷_ (11, Rows.any-gone (Syntax.tyStruct (List._∷_ 112 (List._∷_ 111 (List._∷_ 115 (List._∷_ 105 (List._∷_ 116 (List._∷_ 105 (List._∷_ 111 (List._∷_ 110 (List._∷_ 58 (List._∷_ 58 (List._∷_ 80 (List._∷_ 111 (List._∷_ 115 (List._∷_ 105 (List._∷_ 116 (List._∷_ 105 (List._∷_ 111 (List._∷_ 110 (List._∷_ 83 (List._∷_ 121 (List._∷_ 110 (List._∷_ 116 (List._∷_ 97 (List._∷_ 120 List.[])))))))))))))))))))))))) (Syntax.tcons Syntax.tyBool (Syntax.tcons Syntax.tyBool (Syntax.tcons (Syntax.tyInt Syntax.w64) (Syntax.tcons (Syntax.tyInt Syntax.w64) (Syntax.tcons (Syntax.tyInt Syntax.w64) (Syntax.tcons Syntax.tyBool Syntax.tnil)))))))) (List._∷_ (12, Rows.any-gone (Syntax.tyRef Syntax.erased Syntax.imm Lent.refS)) (List._∷_ (13, Rows.any-gone (Syntax.tyRef Syntax.erased Syntax.mut (Syntax.tyInt Syntax.w64))) (List._∷_ (14, Rows.any-gone (Syntax.tyStruct (List._∷_ 38 (List._∷_ 91 (List._∷_ 93 List.[]))) (Syntax.tcons (Syntax.tyRef Syntax.erased Syntax.mut (Syntax.tyInt Syntax.w64)) (Syntax.tcons (Syntax.tyInt Syntax.w64) Syntax.tnil)))) (List._∷_ (15, Rows.any-gone Syntax.tyBool) List.[])))))))))))))))
+t22 = List._∷_ (0, Rows.any-gone (Syntax.tyStruct (List._∷_ 114 (List._∷_ 117 (List._∷_ 108 (List._∷_ 101 (List._∷_ 115 (List._∷_ 58 (List._∷_ 58 (List._∷_ 65 (List._∷_ 110 (List._∷_ 115 (List._∷_ 119 (List._∷_ 101 (List._∷_ 114 List.[]))))))))))))) (Syntax.tcons (Syntax.tyEnum (List._∷_ 114 (List._∷_ 117 (List._∷_ 108 (List._∷_ 101 (List._∷_ 115 (List._∷_ 58 (List._∷_ 58 (List._∷_ 79 (List._∷_ 117 (List._∷_ 116 (List._∷_ 99 (List._∷_ 111 (List._∷_ 109 (List._∷_ 101 List.[])))))))))))))) (Syntax.ttcons Syntax.tnil (Syntax.ttcons (Syntax.tcons (Syntax.tyInt Syntax.w16) Syntax.tnil) (Syntax.ttcons (Syntax.tcons (Syntax.tyInt Syntax.w16) Syntax.tnil) Syntax.ttnil)))) (Syntax.tcons (Syntax.tyInt Syntax.w64) (Syntax.tcons (Syntax.tyInt Syntax.w64) Syntax.tnil))))) (List._∷_ (1, Rows.sslice (Referent.rtF (Referent.fInt Syntax.w8)) (Syntax.tyRef (Syntax.named 0) Syntax.imm (Syntax.tyInt Syntax.w8)) 0) (List._∷_ (2, Rows.sc-here (Row.sInt Syntax.w64)) (List._∷_ (3, Rows.sc-here Row.sBool) (List._∷_ (4, Mut.mslice (Referent.rtF (Referent.fInt Syntax.w64)) (Syntax.tyRef (Syntax.named 1) Syntax.mut (Syntax.tyInt Syntax.w64)) 1) (List._∷_ (5, Rows.mref-owed Lent.R (Syntax.tyRef (Syntax.named 2) Syntax.mut Lent.refS) 2 5 Row.off) (List._∷_ (6, Rows.sc-here Row.sBool) (List._∷_ (7, Rows.any-gone (Syntax.tyStruct (List._∷_ 112 (List._∷_ 111 (List._∷_ 115 (List._∷_ 105 (List._∷_ 116 (List._∷_ 105 (List._∷_ 111 (List._∷_ 110 (List._∷_ 58 (List._∷_ 58 (List._∷_ 80 (List._∷_ 111 (List._∷_ 115 (List._∷_ 105 (List._∷_ 116 (List._∷_ 105 (List._∷_ 111 (List._∷_ 110 (List._∷_ 83 (List._∷_ 121 (List._∷_ 110 (List._∷_ 116 (List._∷_ 97 (List._∷_ 120 List.[])))))))))))))))))))))))) (Syntax.tcons Syntax.tyBool (Syntax.tcons Syntax.tyBool (Syntax.tcons (Syntax.tyInt Syntax.w64) (Syntax.tcons (Syntax.tyInt Syntax.w64) (Syntax.tcons (Syntax.tyInt Syntax.w64) (Syntax.tcons Syntax.tyBool Syntax.tnil)))))))) (List._∷_ (8, Rows.any-gone (Syntax.tyStruct (List._∷_ 112 (List._∷_ 111 (List._∷_ 115 (List._∷_ 105 (List._∷_ 116 (List._∷_ 105 (List._∷_ 111 (List._∷_ 110 (List._∷_ 95 (List._∷_ 97 (List._∷_ 108 (List._∷_ 111 (List._∷_ 110 (List._∷_ 101 (List._∷_ 58 (List._∷_ 58 (List._∷_ 80 (List._∷_ 111 (List._∷_ 115 (List._∷_ 105 (List._∷_ 116 (List._∷_ 105 (List._∷_ 111 (List._∷_ 110 (List._∷_ 65 (List._∷_ 110 (List._∷_ 115 (List._∷_ 119 (List._∷_ 101 (List._∷_ 114 List.[])))))))))))))))))))))))))))))) (Syntax.tcons (Syntax.tyStruct (List._∷_ 114 (List._∷_ 117 (List._∷_ 108 (List._∷_ 101 (List._∷_ 115 (List._∷_ 58 (List._∷_ 58 (List._∷_ 65 (List._∷_ 110 (List._∷_ 115 (List._∷_ 119 (List._∷_ 101 (List._∷_ 114 List.[]))))))))))))) (Syntax.tcons (Syntax.tyEnum (List._∷_ 114 (List._∷_ 117 (List._∷_ 108 (List._∷_ 101 (List._∷_ 115 (List._∷_ 58 (List._∷_ 58 (List._∷_ 79 (List._∷_ 117 (List._∷_ 116 (List._∷_ 99 (List._∷_ 111 (List._∷_ 109 (List._∷_ 101 List.[])))))))))))))) (Syntax.ttcons Syntax.tnil (Syntax.ttcons (Syntax.tcons (Syntax.tyInt Syntax.w16) Syntax.tnil) (Syntax.ttcons (Syntax.tcons (Syntax.tyInt Syntax.w16) Syntax.tnil) Syntax.ttnil)))) (Syntax.tcons (Syntax.tyInt Syntax.w64) (Syntax.tcons (Syntax.tyInt Syntax.w64) Syntax.tnil)))) (Syntax.tcons (Syntax.tyStruct (List._∷_ 112 (List._∷_ 111 (List._∷_ 115 (List._∷_ 105 (List._∷_ 116 (List._∷_ 105 (List._∷_ 111 (List._∷_ 110 (List._∷_ 58 (List._∷_ 58 (List._∷_ 80 (List._∷_ 111 (List._∷_ 115 (List._∷_ 105 (List._∷_ 116 (List._∷_ 105 (List._∷_ 111 (List._∷_ 110 (List._∷_ 83 (List._∷_ 121 (List._∷_ 110 (List._∷_ 116 (List._∷_ 97 (List._∷_ 120 List.[])))))))))))))))))))))))) (Syntax.tcons Syntax.tyBool (Syntax.tcons Syntax.tyBool (Syntax.tcons (Syntax.tyInt Syntax.w64) (Syntax.tcons (Syntax.tyInt Syntax.w64) (Syntax.tcons (Syntax.tyInt Syntax.w64) (Syntax.tcons Syntax.tyBool Syntax.tnil))))))) Syntax.tnil)))) (List._∷_ (9, Rows.whole (Declared'.row Answer.the-type)) (List._∷_ (10, Rows.any-gone (Syntax.tyEnum (List._∷_ 114 (List._∷_ 117 (List._∷_ 108 (List._∷_ 101 (List._∷_ 115 (List._∷_ 58 (List._∷_ 58 (List._∷_ 79 (List._∷_ 117 (List._∷_ 116 (List._∷_ 99 (List._∷_ 111 (List._∷_ 109 (List._∷_ 101 List.[])))))))))))))) (Syntax.ttcons Syntax.tnil (Syntax.ttcons (Syntax.tcons (Syntax.tyInt Syntax.w16) Syntax.tnil) (Syntax.ttcons (Syntax.tcons (Syntax.tyInt Syntax.w16) Syntax.tnil) Syntax.ttnil))))) (List._∷_ (11, Rows.any-gone (Syntax.tyStruct (List._∷_ 112 (List._∷_ 111 (List._∷_ 115 (List._∷_ 105 (List._∷_ 116 (List._∷_ 105 (List._∷_ 111 (List._∷_ 110 (List._∷_ 58 (List._∷_ 58 (List._∷_ 80 (List._∷_ 111 (List._∷_ 115 (List._∷_ 105 (List._∷_ 116 (List._∷_ 105 (List._∷_ 111 (List._∷_ 110 (List._∷_ 83 (List._∷_ 121 (List._∷_ 110 (List._∷_ 116 (List._∷_ 97 (List._∷_ 120 List.[])))))))))))))))))))))))) (Syntax.tcons Syntax.tyBool (Syntax.tcons Syntax.tyBool (Syntax.tcons (Syntax.tyInt Syntax.w64) (Syntax.tcons (Syntax.tyInt Syntax.w64) (Syntax.tcons (Syntax.tyInt Syntax.w64) (Syntax.tcons Syntax.tyBool Syntax.tnil)))))))) (List._∷_ (12, Rows.any-gone (Syntax.tyRef Syntax.erased Syntax.imm Lent.refS)) (List._∷_ (13, Rows.any-gone (Syntax.tyRef Syntax.erased Syntax.mut (Syntax.tyInt Syntax.w64))) (List._∷_ (14, Rows.any-gone (Syntax.tyStruct (List._∷_ 38 (List._∷_ 91 (List._∷_ 93 List.[]))) (Syntax.tcons (Syntax.tyRef Syntax.erased Syntax.mut (Syntax.tyInt Syntax.w64)) (Syntax.tcons (Syntax.tyInt Syntax.w64) Syntax.tnil)))) (List._∷_ (15, Rows.any-gone Syntax.tyBool) List.[])))))))))))))))
 
 abbrev pub t23 : List.List Row.Entry
 t23 = List._∷_ (16, Rows.any-gone Syntax.tyUnit) (List._∷_ (17, Rows.mleft Lent.R (Syntax.tyRef Syntax.erased Syntax.mut Lent.refS)) List.[])
 
 abbrev pub t24 : List.List Row.Entry
-t24 = List._∷_ (0, Rows.any-gone (Syntax.tyStruct (List._∷_ 114 (List._∷_ 117 (List._∷_ 108 (List._∷_ 101 (List._∷_ 115 (List._∷_ 58 (List._∷_ 58 (List._∷_ 65 (List._∷_ 110 (List._∷_ 115 (List._∷_ 119 (List._∷_ 101 (List._∷_ 114 List.[]))))))))))))) (Syntax.tcons (Syntax.tyEnum (List._∷_ 114 (List._∷_ 117 (List._∷_ 108 (List._∷_ 101 (List._∷_ 115 (List._∷_ 58 (List._∷_ 58 (List._∷_ 79 (List._∷_ 117 (List._∷_ 116 (List._∷_ 99 (List._∷_ 111 (List._∷_ 109 (List._∷_ 101 List.[])))))))))))))) (Syntax.ttcons Syntax.tnil (Syntax.ttcons (Syntax.tcons (Syntax.tyInt Syntax.w16) Syntax.tnil) (Syntax.ttcons (Syntax.tcons (Syntax.tyInt Syntax.w16) Syntax.tnil) Syntax.ttnil)))) (Syntax.tcons (Syntax.tyInt Syntax.w64) (Syntax.tcons (Syntax.tyInt Syntax.w64) Syntax.tnil))))) (List._∷_ (1, Rows.sslice (Referent.rtF (Referent.fInt Syntax.w8)) (Syntax.tyRef (Syntax.named 0) Syntax.imm (Syntax.tyInt Syntax.w8)) 0) (List._∷_ (2, Rows.sc-here (Row.sInt Syntax.w64)) (List._∷_ (3, Rows.sc-here Row.sBool) (List._∷_ (4, Mut.mslice (Referent.rtF (Referent.fInt Syntax.w64)) (Syntax.tyRef (Syntax.named 1) Syntax.mut (Syntax.tyInt Syntax.w64)) 1) (List._∷_ (5, Rows.mref Lent.R (Syntax.tyRef (Syntax.named 2) Syntax.mut Lent.refS) 2) (List._∷_ (6, Rows.sc-here Row.sBool) (List._∷_ (7, Rows.any-gone (Syntax.tyStruct (List._∷_ 112 (List._∷_ 111 (List._∷_ 115 (List._∷_ 105 (List._∷_ 116 (List._∷_ 105 (List._∷_ 111 (List._∷_ 110 (List._∷_ 58 (List._∷_ 58 (List._∷_ 80 (List._∷_ 111 (List._∷_ 115 (List._∷_ 105 (List._∷_ 116 (List._∷_ 105 (List._∷_ 111 (List._∷_ 110 (List._∷_ 83 (List._∷_ 121 (List._∷_ 110 (List._∷_ 116 (List._∷_ 97 (List._∷_ 120 List.[])))))))))))))))))))))))) (Syntax.tcons Syntax.tyBool (Syntax.tcons Syntax.tyBool (Syntax.tcons (Syntax.tyInt Syntax.w64) (Syntax.tcons (Syntax.tyInt Syntax.w64) (Syntax.tcons (Syntax.tyInt Syntax.w64) (Syntax.tcons Syntax.tyBool Syntax.tnil)))))))) (List._∷_ (8, Rows.any-gone (Syntax.tyStruct (List._∷_ 112 (List._∷_ 111 (List._∷_ 115 (List._∷_ 105 (List._∷_ 116 (List._∷_ 105 (List._∷_ 111 (List._∷_ 110 (List._∷_ 58 (List._∷_ 58 (List._∷_ 80 (List._∷_ 111 (List._∷_ 115 (List._∷_ 105 (List._∷_ 116 (List._∷_ 105 (List._∷_ 111 (List._∷_ 110 (List._∷_ 65 (List._∷_ 110 (List._∷_ 115 (List._∷_ 119 (List._∷_ 101 (List._∷_ 114 List.[])))))))))))))))))))))))) (Syntax.tcons (Syntax.tyStruct (List._∷_ 114 (List._∷_ 117 (List._∷_ 108 (List._∷_ 101 (List._∷_ 115 (List._∷_ 58 (List._∷_ 58 (List._∷_ 65 (List._∷_ 110 (List._∷_ 115 (List._∷_ 119 (List._∷_ 101 (List._∷_ 114 List.[]))))))))))))) (Syntax.tcons (Syntax.tyEnum (List._∷_ 114 (List._∷_ 117 (List._∷_ 108 (List._∷_ 101 (List._∷_ 115 (List._∷_ 58 (List._∷_ 58 (List._∷_ 79 (List._∷_ 117 (List._∷_ 116 (List._∷_ 99 (List._∷_ 111 (List._∷_ 109 (List._∷_ 101 List.[])))))))))))))) (Syntax.ttcons Syntax.tnil (Syntax.ttcons (Syntax.tcons (Syntax.tyInt Syntax.w16) Syntax.tnil) (Syntax.ttcons (Syntax.tcons (Syntax.tyInt Syntax.w16) Syntax.tnil) Syntax.ttnil)))) (Syntax.tcons (Syntax.tyInt Syntax.w64) (Syntax.tcons (Syntax.tyInt Syntax.w64) Syntax.tnil)))) (Syntax.tcons (Syntax.tyStruct (List._∷_ 112 (List._∷_ 111 (List._∷_ 115 (List._∷_ 105 (List._∷_ 116 (List._∷_ 105 (List._∷_ 111 (List._∷_ 110 (List._∷_ 58 (List._∷_ 58 (List._∷_ 80 (List._∷_ 111 (List._∷_ 115 (List._∷_ 105 (List._∷_ 116 (List._∷_ 105 (List._∷_ 111 (List._∷_ 110 (List._∷_ 83 (List._∷_ 121 (List._∷_ 110 (List._∷_ 116 (List._∷_ 97 (List._∷_ 120 List.[])))))))))))))))))))))))) (Syntax.tcons Syntax.tyBool (Syntax.tcons Syntax.tyBool (Syntax.tcons (Syntax.tyInt Syntax.w64) (Syntax.tcons (Syntax.tyInt Syntax.w64) (Syntax.tcons (Syntax.tyInt Syntax.w64) (Syntax.tcons Syntax.tyBool Syntax.tnil))))))) Syntax.tnil)))) (List._∷_ (9, Rows.whole (Declared'.row Answer.the-type)) (List._∷_ (10, Rows.any-gone (Syntax.tyEnum (List._∷_ 114 (List._∷_ 117 (List._∷_ 108 (List._∷_ 101 (List._∷_ 115 (List._∷_ 58 (List._∷_ 58 (List._∷_ 79 (List._∷_ 117 (List._∷_ 116 (List._∷_ 99 (List._∷_ 111 (List._∷_ 109 (List._∷_ 101 List.[])))))))))))))) (Syntax.ttcons Syntax.tnil (Syntax.ttcons (Syntax.tcons (Syntax.tyInt Syntax.w16) Syntax.tnil) (Syntax.ttcons (Syntax.tcons (Syntax.tyInt Syntax.w16) Syntax.tnil) Syntax.ttnil))))) (List._∷_ (11, Rows.any-gone (Syntax.tyStruct (List._∷_ 112 (List._∷_ 111 (List._∷_ 115 (List._∷_ 105 (List._∷_ 116 (List._∷_ 105 (List._∷_ 111 (List._∷_ 110 (List._∷_ 58 (List._∷_ 58 (List._∷_ 80 (List._∷_ 111 (List._∷_ 115 (List._∷_ 105 (List._∷_ 116 (List._∷_ 105 (List._∷_ 111 (List._∷_ 110 (List._∷_ 83 (List._∷_ 121 (List._∷_ 110 (List._∷_ 116 (List._∷_ 97 (List._∷_ 120 List.[])))))))))))))))))))))))) (Syntax.tcons Syntax.tyBool (Syntax.tcons Syntax.tyBool (Syntax.tcons (Syntax.tyInt Syntax.w64) (Syntax.tcons (Syntax.tyInt Syntax.w64) (Syntax.tcons (Syntax.tyInt Syntax.w64) (Syntax.tcons Syntax.tyBool Syntax.tnil)))))))) (List._∷_ (12, Rows.any-gone (Syntax.tyRef Syntax.erased Syntax.imm Lent.refS)) (List._∷_ (13, Rows.any-gone (Syntax.tyRef Syntax.erased Syntax.mut (Syntax.tyInt Syntax.w64))) (List._∷_ (14, Rows.any-gone (Syntax.tyStruct (List._∷_ 38 (List._∷_ 91 (List._∷_ 93 List.[]))) (Syntax.tcons (Syntax.tyRef Syntax.erased Syntax.mut (Syntax.tyInt Syntax.w64)) (Syntax.tcons (Syntax.tyInt Syntax.w64) Syntax.tnil)))) (List._∷_ (15, Rows.sc-here Row.sBool) List.[])))))))))))))))
+t24 = List._∷_ (0, Rows.any-gone (Syntax.tyStruct (List._∷_ 114 (List._∷_ 117 (List._∷_ 108 (List._∷_ 101 (List._∷_ 115 (List._∷_ 58 (List._∷_ 58 (List._∷_ 65 (List._∷_ 110 (List._∷_ 115 (List._∷_ 119 (List._∷_ 101 (List._∷_ 114 List.[]))))))))))))) (Syntax.tcons (Syntax.tyEnum (List._∷_ 114 (List._∷_ 117 (List._∷_ 108 (List._∷_ 101 (List._∷_ 115 (List._∷_ 58 (List._∷_ 58 (List._∷_ 79 (List._∷_ 117 (List._∷_ 116 (List._∷_ 99 (List._∷_ 111 (List._∷_ 109 (List._∷_ 101 List.[])))))))))))))) (Syntax.ttcons Syntax.tnil (Syntax.ttcons (Syntax.tcons (Syntax.tyInt Syntax.w16) Syntax.tnil) (Syntax.ttcons (Syntax.tcons (Syntax.tyInt Syntax.w16) Syntax.tnil) Syntax.ttnil)))) (Syntax.tcons (Syntax.tyInt Syntax.w64) (Syntax.tcons (Syntax.tyInt Syntax.w64) Syntax.tnil))))) (List._∷_ (1, Rows.sslice (Referent.rtF (Referent.fInt Syntax.w8)) (Syntax.tyRef (Syntax.named 0) Syntax.imm (Syntax.tyInt Syntax.w8)) 0) (List._∷_ (2, Rows.sc-here (Row.sInt Syntax.w64)) (List._∷_ (3, Rows.sc-here Row.sBool) (List._∷_ (4, Mut.mslice (Referent.rtF (Referent.fInt Syntax.w64)) (Syntax.tyRef (Syntax.named 1) Syntax.mut (Syntax.tyInt Syntax.w64)) 1) (List._∷_ (5, Rows.mref Lent.R (Syntax.tyRef (Syntax.named 2) Syntax.mut Lent.refS) 2) (List._∷_ (6, Rows.sc-here Row.sBool) (List._∷_ (7, Rows.any-gone (Syntax.tyStruct (List._∷_ 112 (List._∷_ 111 (List._∷_ 115 (List._∷_ 105 (List._∷_ 116 (List._∷_ 105 (List._∷_ 111 (List._∷_ 110 (List._∷_ 58 (List._∷_ 58 (List._∷_ 80 (List._∷_ 111 (List._∷_ 115 (List._∷_ 105 (List._∷_ 116 (List._∷_ 105 (List._∷_ 111 (List._∷_ 110 (List._∷_ 83 (List._∷_ 121 (List._∷_ 110 (List._∷_ 116 (List._∷_ 97 (List._∷_ 120 List.[])))))))))))))))))))))))) (Syntax.tcons Syntax.tyBool (Syntax.tcons Syntax.tyBool (Syntax.tcons (Syntax.tyInt Syntax.w64) (Syntax.tcons (Syntax.tyInt Syntax.w64) (Syntax.tcons (Syntax.tyInt Syntax.w64) (Syntax.tcons Syntax.tyBool Syntax.tnil)))))))) (List._∷_ (8, Rows.any-gone (Syntax.tyStruct (List._∷_ 112 (List._∷_ 111 (List._∷_ 115 (List._∷_ 105 (List._∷_ 116 (List._∷_ 105 (List._∷_ 111 (List._∷_ 110 (List._∷_ 95 (List._∷_ 97 (List._∷_ 108 (List._∷_ 111 (List._∷_ 110 (List._∷_ 101 (List._∷_ 58 (List._∷_ 58 (List._∷_ 80 (List._∷_ 111 (List._∷_ 115 (List._∷_ 105 (List._∷_ 116 (List._∷_ 105 (List._∷_ 111 (List._∷_ 110 (List._∷_ 65 (List._∷_ 110 (List._∷_ 115 (List._∷_ 119 (List._∷_ 101 (List._∷_ 114 List.[])))))))))))))))))))))))))))))) (Syntax.tcons (Syntax.tyStruct (List._∷_ 114 (List._∷_ 117 (List._∷_ 108 (List._∷_ 101 (List._∷_ 115 (List._∷_ 58 (List._∷_ 58 (List._∷_ 65 (List._∷_ 110 (List._∷_ 115 (List._∷_ 119 (List._∷_ 101 (List._∷_ 114 List.[]))))))))))))) (Syntax.tcons (Syntax.tyEnum (List._∷_ 114 (List._∷_ 117 (List._∷_ 108 (List._∷_ 101 (List._∷_ 115 (List._∷_ 58 (List._∷_ 58 (List._∷_ 79 (List._∷_ 117 (List._∷_ 116 (List._∷_ 99 (List._∷_ 111 (List._∷_ 109 (List._∷_ 101 List.[])))))))))))))) (Syntax.ttcons Syntax.tnil (Syntax.ttcons (Syntax.tcons (Syntax.tyInt Syntax.w16) Syntax.tnil) (Syntax.ttcons (Syntax.tcons (Syntax.tyInt Syntax.w16) Syntax.tnil) Syntax.ttnil)))) (Syntax.tcons (Syntax.tyInt Syntax.w64) (Syntax.tcons (Syntax.tyInt Syntax.w64) Syntax.tnil)))) (Syntax.tcons (Syntax.tyStruct (List._∷_ 112 (List._∷_ 111 (List._∷_ 115 (List._∷_ 105 (List._∷_ 116 (List._∷_ 105 (List._∷_ 111 (List._∷_ 110 (List._∷_ 58 (List._∷_ 58 (List._∷_ 80 (List._∷_ 111 (List._∷_ 115 (List._∷_ 105 (List._∷_ 116 (List._∷_ 105 (List._∷_ 111 (List._∷_ 110 (List._∷_ 83 (List._∷_ 121 (List._∷_ 110 (List._∷_ 116 (List._∷_ 97 (List._∷_ 120 List.[])))))))))))))))))))))))) (Syntax.tcons Syntax.tyBool (Syntax.tcons Syntax.tyBool (Syntax.tcons (Syntax.tyInt Syntax.w64) (Syntax.tcons (Syntax.tyInt Syntax.w64) (Syntax.tcons (Syntax.tyInt Syntax.w64) (Syntax.tcons Syntax.tyBool Syntax.tnil))))))) Syntax.tnil)))) (List._∷_ (9, Rows.whole (Declared'.row Answer.the-type)) (List._∷_ (10, Rows.any-gone (Syntax.tyEnum (List._∷_ 114 (List._∷_ 117 (List._∷_ 108 (List._∷_ 101 (List._∷_ 115 (List._∷_ 58 (List._∷_ 58 (List._∷_ 79 (List._∷_ 117 (List._∷_ 116 (List._∷_ 99 (List._∷_ 111 (List._∷_ 109 (List._∷_ 101 List.[])))))))))))))) (Syntax.ttcons Syntax.tnil (Syntax.ttcons (Syntax.tcons (Syntax.tyInt Syntax.w16) Syntax.tnil) (Syntax.ttcons (Syntax.tcons (Syntax.tyInt Syntax.w16) Syntax.tnil) Syntax.ttnil))))) (List._∷_ (11, Rows.any-gone (Syntax.tyStruct (List._∷_ 112 (List._∷_ 111 (List._∷_ 115 (List._∷_ 105 (List._∷_ 116 (List._∷_ 105 (List._∷_ 111 (List._∷_ 110 (List._∷_ 58 (List._∷_ 58 (List._∷_ 80 (List._∷_ 111 (List._∷_ 115 (List._∷_ 105 (List._∷_ 116 (List._∷_ 105 (List._∷_ 111 (List._∷_ 110 (List._∷_ 83 (List._∷_ 121 (List._∷_ 110 (List._∷_ 116 (List._∷_ 97 (List._∷_ 120 List.[])))))))))))))))))))))))) (Syntax.tcons Syntax.tyBool (Syntax.tcons Syntax.tyBool (Syntax.tcons (Syntax.tyInt Syntax.w64) (Syntax.tcons (Syntax.tyInt Syntax.w64) (Syntax.tcons (Syntax.tyInt Syntax.w64) (Syntax.tcons Syntax.tyBool Syntax.tnil)))))))) (List._∷_ (12, Rows.any-gone (Syntax.tyRef Syntax.erased Syntax.imm Lent.refS)) (List._∷_ (13, Rows.any-gone (Syntax.tyRef Syntax.erased Syntax.mut (Syntax.tyInt Syntax.w64))) (List._∷_ (14, Rows.any-gone (Syntax.tyStruct (List._∷_ 38 (List._∷_ 91 (List._∷_ 93 List.[]))) (Syntax.tcons (Syntax.tyRef Syntax.erased Syntax.mut (Syntax.tyInt Syntax.w64)) (Syntax.tcons (Syntax.tyInt Syntax.w64) Syntax.tnil)))) (List._∷_ (15, Rows.sc-here Row.sBool) List.[])))))))))))))))
 
 abbrev pub t25 : List.List Row.Entry
-t25 = List._∷_ (0, Rows.whole (Declared'.row Answer.the-type)) (List._∷_ (1, Rows.sslice (Referent.rtF (Referent.fInt Syntax.w8)) (Syntax.tyRef (Syntax.named 0) Syntax.imm (Syntax.tyInt Syntax.w8)) 0) (List._∷_ (2, Rows.sc-here (Row.sInt Syntax.w64)) (List._∷_ (3, Rows.sc-here Row.sBool) (List._∷_ (4, Mut.mslice (Referent.rtF (Referent.fInt Syntax.w64)) (Syntax.tyRef (Syntax.named 1) Syntax.mut (Syntax.tyInt Syntax.w64)) 1) (List._∷_ (5, Rows.mref Lent.R (Syntax.tyRef (Syntax.named 2) Syntax.mut Lent.refS) 2) (List._∷_ (6, Rows.sc-here Row.sBool) (List._∷_ (7, Rows.any-gone (Syntax.tyStruct (List._∷_ 112 (List._∷_ 111 (List._∷_ 115 (List._∷_ 105 (List._∷_ 116 (List._∷_ 105 (List._∷_ 111 (List._∷_ 110 (List._∷_ 58 (List._∷_ 58 (List._∷_ 80 (List._∷_ 111 (List._∷_ 115 (List._∷_ 105 (List._∷_ 116 (List._∷_ 105 (List._∷_ 111 (List._∷_ 110 (List._∷_ 83 (List._∷_ 121 (List._∷_ 110 (List._∷_ 116 (List._∷_ 97 (List._∷_ 120 List.[])))))))))))))))))))))))) (Syntax.tcons Syntax.tyBool (Syntax.tcons Syntax.tyBool (Syntax.tcons (Syntax.tyInt Syntax.w64) (Syntax.tcons (Syntax.tyInt Syntax.w64) (Syntax.tcons (Syntax.tyInt Syntax.w64) (Syntax.tcons Syntax.tyBool Syntax.tnil)))))))) (List._∷_ (8, Rows.any-gone (Syntax.tyStruct (List._∷_ 112 (List._∷_ 111 (List._∷_ 115 (List._∷_ 105 (List._∷_ 116 (List._∷_ 105 (List._∷_ 111 (List._∷_ 110 (List._∷_ 58 (List._∷_ 58 (List._∷_ 80 (List._∷_ 111 (List._∷_ 115 (List._∷_ 105 (List._∷_ 116 (List._∷_ 105 (List._∷_ 111 (List._∷_ 110 (List._∷_ 65 (List._∷_ 110 (List._∷_ 115 (List._∷_ 119 (List._∷_ 101 (List._∷_ 114 List.[])))))))))))))))))))))))) (Syntax.tcons (Syntax.tyStruct (List._∷_ 114 (List._∷_ 117 (List._∷_ 108 (List._∷_ 101 (List._∷_ 115 (List._∷_ 58 (List._∷_ 58 (List._∷_ 65 (List._∷_ 110 (List._∷_ 115 (List._∷_ 119 (List._∷_ 101 (List._∷_ 114 List.[]))))))))))))) (Syntax.tcons (Syntax.tyEnum (List._∷_ 114 (List._∷_ 117 (List._∷_ 108 (List._∷_ 101 (List._∷_ 115 (List._∷_ 58 (List._∷_ 58 (List._∷_ 79 (List._∷_ 117 (List._∷_ 116 (List._∷_ 99 (List._∷_ 111 (List._∷_ 109 (List._∷_ 101 List.[])))))))))))))) (Syntax.ttcons Syntax.tnil (Syntax.ttcons (Syntax.tcons (Syntax.tyInt Syntax.w16) Syntax.tnil) (Syntax.ttcons (Syntax.tcons (Syntax.tyInt Syntax.w16) Syntax.tnil) Syntax.ttnil)))) (Syntax.tcons (Syntax.tyInt Syntax.w64) (Syntax.tcons (Syntax.tyInt Syntax.w64) Syntax.tnil)))) (Syntax.tcons (Syntax.tyStruct (List._∷_ 112 (List._∷_ 111 (List._∷_ 115 (List._∷_ 105 (List._∷_ 116 (List._∷_ 105 (List._∷_ 111 (List._∷_ 110 (List._∷_ 58 (List._∷_ 58 (List._∷_ 80 (List._∷_ 111 (List._∷_ 115 (List._∷_ 105 (List._∷_ 116 (List._∷_ 105 (List._∷_ 111 (List._∷_ 110 (List._∷_ 83 (List._∷_ 121 (List._∷_ 110 (List._∷_ 116 (List._∷_ 97 (List._∷_ 120 List.[])))))))))))))))))))))))) (Syntax.tcons Syntax.tyBool (Syntax.tcons Syntax.tyBool (Syntax.tcons (Syntax.tyInt Syntax.w64) (Syntax.tcons (Syntax.tyInt Syntax.w64) (Syntax.tcons (Syntax.tyInt Syntax.w64) (Syntax.tcons Syntax.tyBool Syntax.tnil))))))) Syntax.tnil)))) (List._∷_ (9, Rows.whole (Declared'.row Answer.the-type)) (List._∷_ (10, Rows.any-gone (Syntax.tyEnum (List._∷_ 114 (List._∷_ 117 (List._∷_ 108 (List._∷_ 101 (List._∷_ 115 (List._∷_ 58 (List._∷_ 58 (List._∷_ 79 (List._∷_ 117 (List._∷_ 116 (List._∷_ 99 (List._∷_ 111 (List._∷_ 109 (List._∷_ 101 List.[])))))))))))))) (Syntax.ttcons Syntax.tnil (Syntax.ttcons (Syntax.tcons (Syntax.tyInt Syntax.w16) Syntax.tnil) (Syntax.ttcons (Syntax.tcons (Syntax.tyInt Syntax.w16) Syntax.tnil) Syntax.ttnil))))) (List._∷_ (11, Rows.any-gone (Syntax.tyStruct (List._∷_ 112 (List._∷_ 111 (List._∷_ 115 (List._∷_ 105 (List._∷_ 116 (List._∷_ 105 (List._∷_ 111 (List._∷_ 110 (List._∷_ 58 (List._∷_ 58 (List._∷_ 80 (List._∷_ 111 (List._∷_ 115 (List._∷_ 105 (List._∷_ 116 (List._∷_ 105 (List._∷_ 111 (List._∷_ 110 (List._∷_ 83 (List._∷_ 121 (List._∷_ 110 (List._∷_ 116 (List._∷_ 97 (List._∷_ 120 List.[])))))))))))))))))))))))) (Syntax.tcons Syntax.tyBool (Syntax.tcons Syntax.tyBool (Syntax.tcons (Syntax.tyInt Syntax.w64) (Syntax.tcons (Syntax.tyInt Syntax.w64) (Syntax.tcons (Syntax.tyInt Syntax.w64) (Syntax.tcons Syntax.tyBool Syntax.tnil)))))))) (List._∷_ (12, Rows.any-gone (Syntax.tyRef Syntax.erased Syntax.imm Lent.refS)) (List._∷_ (13, Rows.any-gone (Syntax.tyRef Syntax.erased Syntax.mut (Syntax.tyInt Syntax.w64))) (List._∷_ (14, Rows.any-gone (Syntax.tyStruct (List._∷_ 38 (List._∷_ 91 (List._∷_ 93 List.[]))) (Syntax.tcons (Syntax.tyRef Syntax.erased Syntax.mut (Syntax.tyInt Syntax.w64)) (Syntax.tcons (Syntax.tyInt Syntax.w64) Syntax.tnil)))) (List._∷_ (15, Rows.any-gone Syntax.tyBool) List.[])))))))))))))))
+t25 = List._∷_ (0, Rows.whole (Declared'.row Answer.the-type)) (List._∷_ (1, Rows.sslice (Referent.rtF (Referent.fInt Syntax.w8)) (Syntax.tyRef (Syntax.named 0) Syntax.imm (Syntax.tyInt Syntax.w8)) 0) (List._∷_ (2, Rows.sc-here (Row.sInt Syntax.w64)) (List._∷_ (3, Rows.sc-here Row.sBool) (List._∷_ (4, Mut.mslice (Referent.rtF (Referent.fInt Syntax.w64)) (Syntax.tyRef (Syntax.named 1) Syntax.mut (Syntax.tyInt Syntax.w64)) 1) (List._∷_ (5, Rows.mref Lent.R (Syntax.tyRef (Syntax.named 2) Syntax.mut Lent.refS) 2) (List._∷_ (6, Rows.sc-here Row.sBool) (List._∷_ (7, Rows.any-gone (Syntax.tyStruct (List._∷_ 112 (List._∷_ 111 (List._∷_ 115 (List._∷_ 105 (List._∷_ 116 (List._∷_ 105 (List._∷_ 111 (List._∷_ 110 (List._∷_ 58 (List._∷_ 58 (List._∷_ 80 (List._∷_ 111 (List._∷_ 115 (List._∷_ 105 (List._∷_ 116 (List._∷_ 105 (List._∷_ 111 (List._∷_ 110 (List._∷_ 83 (List._∷_ 121 (List._∷_ 110 (List._∷_ 116 (List._∷_ 97 (List._∷_ 120 List.[])))))))))))))))))))))))) (Syntax.tcons Syntax.tyBool (Syntax.tcons Syntax.tyBool (Syntax.tcons (Syntax.tyInt Syntax.w64) (Syntax.tcons (Syntax.tyInt Syntax.w64) (Syntax.tcons (Syntax.tyInt Syntax.w64) (Syntax.tcons Syntax.tyBool Syntax.tnil)))))))) (List._∷_ (8, Rows.any-gone (Syntax.tyStruct (List._∷_ 112 (List._∷_ 111 (List._∷_ 115 (List._∷_ 105 (List._∷_ 116 (List._∷_ 105 (List._∷_ 111 (List._∷_ 110 (List._∷_ 95 (List._∷_ 97 (List._∷_ 108 (List._∷_ 111 (List._∷_ 110 (List._∷_ 101 (List._∷_ 58 (List._∷_ 58 (List._∷_ 80 (List._∷_ 111 (List._∷_ 115 (List._∷_ 105 (List._∷_ 116 (List._∷_ 105 (List._∷_ 111 (List._∷_ 110 (List._∷_ 65 (List._∷_ 110 (List._∷_ 115 (List._∷_ 119 (List._∷_ 101 (List._∷_ 114 List.[])))))))))))))))))))))))))))))) (Syntax.tcons (Syntax.tyStruct (List._∷_ 114 (List._∷_ 117 (List._∷_ 108 (List._∷_ 101 (List._∷_ 115 (List._∷_ 58 (List._∷_ 58 (List._∷_ 65 (List._∷_ 110 (List._∷_ 115 (List._∷_ 119 (List._∷_ 101 (List._∷_ 114 List.[]))))))))))))) (Syntax.tcons (Syntax.tyEnum (List._∷_ 114 (List._∷_ 117 (List._∷_ 108 (List._∷_ 101 (List._∷_ 115 (List._∷_ 58 (List._∷_ 58 (List._∷_ 79 (List._∷_ 117 (List._∷_ 116 (List._∷_ 99 (List._∷_ 111 (List._∷_ 109 (List._∷_ 101 List.[])))))))))))))) (Syntax.ttcons Syntax.tnil (Syntax.ttcons (Syntax.tcons (Syntax.tyInt Syntax.w16) Syntax.tnil) (Syntax.ttcons (Syntax.tcons (Syntax.tyInt Syntax.w16) Syntax.tnil) Syntax.ttnil)))) (Syntax.tcons (Syntax.tyInt Syntax.w64) (Syntax.tcons (Syntax.tyInt Syntax.w64) Syntax.tnil)))) (Syntax.tcons (Syntax.tyStruct (List._∷_ 112 (List._∷_ 111 (List._∷_ 115 (List._∷_ 105 (List._∷_ 116 (List._∷_ 105 (List._∷_ 111 (List._∷_ 110 (List._∷_ 58 (List._∷_ 58 (List._∷_ 80 (List._∷_ 111 (List._∷_ 115 (List._∷_ 105 (List._∷_ 116 (List._∷_ 105 (List._∷_ 111 (List._∷_ 110 (List._∷_ 83 (List._∷_ 121 (List._∷_ 110 (List._∷_ 116 (List._∷_ 97 (List._∷_ 120 List.[])))))))))))))))))))))))) (Syntax.tcons Syntax.tyBool (Syntax.tcons Syntax.tyBool (Syntax.tcons (Syntax.tyInt Syntax.w64) (Syntax.tcons (Syntax.tyInt Syntax.w64) (Syntax.tcons (Syntax.tyInt Syntax.w64) (Syntax.tcons Syntax.tyBool Syntax.tnil))))))) Syntax.tnil)))) (List._∷_ (9, Rows.whole (Declared'.row Answer.the-type)) (List._∷_ (10, Rows.any-gone (Syntax.tyEnum (List._∷_ 114 (List._∷_ 117 (List._∷_ 108 (List._∷_ 101 (List._∷_ 115 (List._∷_ 58 (List._∷_ 58 (List._∷_ 79 (List._∷_ 117 (List._∷_ 116 (List._∷_ 99 (List._∷_ 111 (List._∷_ 109 (List._∷_ 101 List.[])))))))))))))) (Syntax.ttcons Syntax.tnil (Syntax.ttcons (Syntax.tcons (Syntax.tyInt Syntax.w16) Syntax.tnil) (Syntax.ttcons (Syntax.tcons (Syntax.tyInt Syntax.w16) Syntax.tnil) Syntax.ttnil))))) (List._∷_ (11, Rows.any-gone (Syntax.tyStruct (List._∷_ 112 (List._∷_ 111 (List._∷_ 115 (List._∷_ 105 (List._∷_ 116 (List._∷_ 105 (List._∷_ 111 (List._∷_ 110 (List._∷_ 58 (List._∷_ 58 (List._∷_ 80 (List._∷_ 111 (List._∷_ 115 (List._∷_ 105 (List._∷_ 116 (List._∷_ 105 (List._∷_ 111 (List._∷_ 110 (List._∷_ 83 (List._∷_ 121 (List._∷_ 110 (List._∷_ 116 (List._∷_ 97 (List._∷_ 120 List.[])))))))))))))))))))))))) (Syntax.tcons Syntax.tyBool (Syntax.tcons Syntax.tyBool (Syntax.tcons (Syntax.tyInt Syntax.w64) (Syntax.tcons (Syntax.tyInt Syntax.w64) (Syntax.tcons (Syntax.tyInt Syntax.w64) (Syntax.tcons Syntax.tyBool Syntax.tnil)))))))) (List._∷_ (12, Rows.any-gone (Syntax.tyRef Syntax.erased Syntax.imm Lent.refS)) (List._∷_ (13, Rows.any-gone (Syntax.tyRef Syntax.erased Syntax.mut (Syntax.tyInt Syntax.w64))) (List._∷_ (14, Rows.any-gone (Syntax.tyStruct (List._∷_ 38 (List._∷_ 91 (List._∷_ 93 List.[]))) (Syntax.tcons (Syntax.tyRef Syntax.erased Syntax.mut (Syntax.tyInt Syntax.w64)) (Syntax.tcons (Syntax.tyInt Syntax.w64) Syntax.tnil)))) (List._∷_ (15, Rows.any-gone Syntax.tyBool) List.[])))))))))))))))
 
 abbrev pub t26 : List.List Row.Entry
-t26 = List._∷_ (0, Rows.whole (Declared'.row Answer.the-type)) (List._∷_ (1, Rows.sslice (Referent.rtF (Referent.fInt Syntax.w8)) (Syntax.tyRef (Syntax.named 0) Syntax.imm (Syntax.tyInt Syntax.w8)) 0) (List._∷_ (2, Rows.sc-here (Row.sInt Syntax.w64)) (List._∷_ (3, Rows.sc-here Row.sBool) (List._∷_ (4, Mut.mslice (Referent.rtF (Referent.fInt Syntax.w64)) (Syntax.tyRef (Syntax.named 1) Syntax.mut (Syntax.tyInt Syntax.w64)) 1) (List._∷_ (5, Rows.mref Lent.R (Syntax.tyRef (Syntax.named 2) Syntax.mut Lent.refS) 2) (List._∷_ (6, Rows.sc-here Row.sBool) (List._∷_ (7, Rows.any-gone (Syntax.tyStruct (List._∷_ 112 (List._∷_ 111 (List._∷_ 115 (List._∷_ 105 (List._∷_ 116 (List._∷_ 105 (List._∷_ 111 (List._∷_ 110 (List._∷_ 58 (List._∷_ 58 (List._∷_ 80 (List._∷_ 111 (List._∷_ 115 (List._∷_ 105 (List._∷_ 116 (List._∷_ 105 (List._∷_ 111 (List._∷_ 110 (List._∷_ 83 (List._∷_ 121 (List._∷_ 110 (List._∷_ 116 (List._∷_ 97 (List._∷_ 120 List.[])))))))))))))))))))))))) (Syntax.tcons Syntax.tyBool (Syntax.tcons Syntax.tyBool (Syntax.tcons (Syntax.tyInt Syntax.w64) (Syntax.tcons (Syntax.tyInt Syntax.w64) (Syntax.tcons (Syntax.tyInt Syntax.w64) (Syntax.tcons Syntax.tyBool Syntax.tnil)))))))) (List._∷_ (8, Rows.any-gone (Syntax.tyStruct (List._∷_ 112 (List._∷_ 111 (List._∷_ 115 (List._∷_ 105 (List._∷_ 116 (List._∷_ 105 (List._∷_ 111 (List._∷_ 110 (List._∷_ 58 (List._∷_ 58 (List._∷_ 80 (List._∷_ 111 (List._∷_ 115 (List._∷_ 105 (List._∷_ 116 (List._∷_ 105 (List._∷_ 111 (List._∷_ 110 (List._∷_ 65 (List._∷_ 110 (List._∷_ 115 (List._∷_ 119 (List._∷_ 101 (List._∷_ 114 List.[])))))))))))))))))))))))) (Syntax.tcons (Syntax.tyStruct (List._∷_ 114 (List._∷_ 117 (List._∷_ 108 (List._∷_ 101 (List._∷_ 115 (List._∷_ 58 (List._∷_ 58 (List._∷_ 65 (List._∷_ 110 (List._∷_ 115 (List._∷_ 119 (List._∷_ 101 (List._∷_ 114 List.[]))))))))))))) (Syntax.tcons (Syntax.tyEnum (List._∷_ 114 (List._∷_ 117 (List._∷_ 108 (List._∷_ 101 (List._∷_ 115 (List._∷_ 58 (List._∷_ 58 (List._∷_ 79 (List._∷_ 117 (List._∷_ 116 (List._∷_ 99 (List._∷_ 111 (List._∷_ 109 (List._∷_ 101 List.[])))))))))))))) (Syntax.ttcons Syntax.tnil (Syntax.ttcons (Syntax.tcons (Syntax.tyInt Syntax.w16) Syntax.tnil) (Syntax.ttcons (Syntax.tcons (Syntax.tyInt Syntax.w16) Syntax.tnil) Syntax.ttnil)))) (Syntax.tcons (Syntax.tyInt Syntax.w64) (Syntax.tcons (Syntax.tyInt Syntax.w64) Syntax.tnil)))) (Syntax.tcons (Syntax.tyStruct (List._∷_ 112 (List._∷_ 111 (List._∷_ 115 (List._∷_ 105 (List._∷_ 116 (List._∷_ 105 (List._∷_ 111 (List._∷_ 110 (List._∷_ 58 (List._∷_ 58 (List._∷_ 80 (List._∷_ 111 (List._∷_ 115 (List._∷_ 105 (List._∷_ 116 (List._∷_ 105 (List._∷_ 111 (List._∷_ 110 (List._∷_ 83 (List._∷_ 121 (List._∷_ 110 (List._∷_ 116 (List._∷_ 97 (List._∷_ 120 List.[])))))))))))))))))))))))) (Syntax.tcons Syntax.tyBool (Syntax.tcons Syntax.tyBool (Syntax.tcons (Syntax.tyInt Syntax.w64) (Syntax.tcons (Syntax.tyInt Syntax.w64) (Syntax.tcons (Syntax.tyInt Syntax.w64) (Syntax.tcons Syntax.tyBool Syntax.tnil))))))) Syntax.tnil)))) (List._∷_ (9, Rows.any-gone (Syntax.tyStruct (List._∷_ 114 (List._∷_ 117 (List._∷_ 108 (List._∷_ 101 (List._∷_ 115 (List._∷_ 58 (List._∷_ 58 (List._∷_ 65 (List._∷_ 110 (List._∷_ 115 (List._∷_ 119 (List._∷_ 101 (List._∷_ 114 List.[]))))))))))))) (Syntax.tcons (Syntax.tyEnum (List._∷_ 114 (List._∷_ 117 (List._∷_ 108 (List._∷_ 101 (List._∷_ 115 (List._∷_ 58 (List._∷_ 58 (List._∷_ 79 (List._∷_ 117 (List._∷_ 116 (List._∷_ 99 (List._∷_ 111 (List._∷_ 109 (List._∷_ 101 List.[])))))))))))))) (Syntax.ttcons Syntax.tnil (Syntax.ttcons (Syntax.tcons (Syntax.tyInt Syntax.w16) Syntax.tnil) (Syntax.ttcons (Syntax.tcons (Syntax.tyInt Syntax.w16) Syntax.tnil) Syntax.ttnil)))) (Syntax.tcons (Syntax.tyInt Syntax.w64) (Syntax.tcons (Syntax.tyInt Syntax.w64) Syntax.tnil))))) (List._∷_ (10, Rows.any-gone (Syntax.tyEnum (List._∷_ 114 (List._∷_ 117 (List._∷_ 108 (List._∷_ 101 (List._∷_ 115 (List._∷_ 58 (List._∷_ 58 (List._∷_ 79 (List._∷_ 117 (List._∷_ 116 (List._∷_ 99 (List._∷_ 111 (List._∷_ 109 (List._∷_ 101 List.[])))))))))))))) (Syntax.ttcons Syntax.tnil (Syntax.ttcons (Syntax.tcons (Syntax.tyInt Syntax.w16) Syntax.tnil) (Syntax.ttcons (Syntax.tcons (Syntax.tyInt Syntax.w16) Syntax.tnil) Syntax.ttnil))))) (List._∷_ (11, Rows.any-gone (Syntax.tyStruct (List._∷_ 112 (List._∷_ 111 (List._∷_ 115 (List._∷_ 105 (List._∷_ 116 (List._∷_ 105 (List._∷_ 111 (List._∷_ 110 (List._∷_ 58 (List._∷_ 58 (List._∷_ 80 (List._∷_ 111 (List._∷_ 115 (List._∷_ 105 (List._∷_ 116 (List._∷_ 105 (List._∷_ 111 (List._∷_ 110 (List._∷_ 83 (List._∷_ 121 (List._∷_ 110 (List._∷_ 116 (List._∷_ 97 (List._∷_ 120 List.[])))))))))))))))))))))))) (Syntax.tcons Syntax.tyBool (Syntax.tcons Syntax.tyBool (Syntax.tcons (Syntax.tyInt Syntax.w64) (Syntax.tcons (Syntax.tyInt Syntax.w64) (Syntax.tcons (Syntax.tyInt Syntax.w64) (Syntax.tcons Syntax.tyBool Syntax.tnil)))))))) (List._∷_ (12, Rows.any-gone (Syntax.tyRef Syntax.erased Syntax.imm Lent.refS)) (List._∷_ (13, Rows.any-gone (Syntax.tyRef Syntax.erased Syntax.mut (Syntax.tyInt Syntax.w64))) (List._∷_ (14, Rows.any-gone (Syntax.tyStruct (List._∷_ 38 (List._∷_ 91 (List._∷_ 93 List.[]))) (Syntax.tcons (Syntax.tyRef Syntax.erased Syntax.mut (Syntax.tyInt Syntax.w64)) (Syntax.tcons (Syntax.tyInt Syntax.w64) Syntax.tnil)))) (List._∷_ (15, Rows.any-gone Syntax.tyBool) List.[])))))))))))))))
+t26 = List._∷_ (0, Rows.whole (Declared'.row Answer.the-type)) (List._∷_ (1, Rows.sslice (Referent.rtF (Referent.fInt Syntax.w8)) (Syntax.tyRef (Syntax.named 0) Syntax.imm (Syntax.tyInt Syntax.w8)) 0) (List._∷_ (2, Rows.sc-here (Row.sInt Syntax.w64)) (List._∷_ (3, Rows.sc-here Row.sBool) (List._∷_ (4, Mut.mslice (Referent.rtF (Referent.fInt Syntax.w64)) (Syntax.tyRef (Syntax.named 1) Syntax.mut (Syntax.tyInt Syntax.w64)) 1) (List._∷_ (5, Rows.mref Lent.R (Syntax.tyRef (Syntax.named 2) Syntax.mut Lent.refS) 2) (List._∷_ (6, Rows.sc-here Row.sBool) (List._∷_ (7, Rows.any-gone (Syntax.tyStruct (List._∷_ 112 (List._∷_ 111 (List._∷_ 115 (List._∷_ 105 (List._∷_ 116 (List._∷_ 105 (List._∷_ 111 (List._∷_ 110 (List._∷_ 58 (List._∷_ 58 (List._∷_ 80 (List._∷_ 111 (List._∷_ 115 (List._∷_ 105 (List._∷_ 116 (List._∷_ 105 (List._∷_ 111 (List._∷_ 110 (List._∷_ 83 (List._∷_ 121 (List._∷_ 110 (List._∷_ 116 (List._∷_ 97 (List._∷_ 120 List.[])))))))))))))))))))))))) (Syntax.tcons Syntax.tyBool (Syntax.tcons Syntax.tyBool (Syntax.tcons (Syntax.tyInt Syntax.w64) (Syntax.tcons (Syntax.tyInt Syntax.w64) (Syntax.tcons (Syntax.tyInt Syntax.w64) (Syntax.tcons Syntax.tyBool Syntax.tnil)))))))) (List._∷_ (8, Rows.any-gone (Syntax.tyStruct (List._∷_ 112 (List._∷_ 111 (List._∷_ 115 (List._∷_ 105 (List._∷_ 116 (List._∷_ 105 (List._∷_ 111 (List._∷_ 110 (List._∷_ 95 (List._∷_ 97 (List._∷_ 108 (List._∷_ 111 (List._∷_ 110 (List._∷_ 101 (List._∷_ 58 (List._∷_ 58 (List._∷_ 80 (List._∷_ 111 (List._∷_ 115 (List._∷_ 105 (List._∷_ 116 (List._∷_ 105 (List._∷_ 111 (List._∷_ 110 (List._∷_ 65 (List._∷_ 110 (List._∷_ 115 (List._∷_ 119 (List._∷_ 101 (List._∷_ 114 List.[])))))))))))))))))))))))))))))) (Syntax.tcons (Syntax.tyStruct (List._∷_ 114 (List._∷_ 117 (List._∷_ 108 (List._∷_ 101 (List._∷_ 115 (List._∷_ 58 (List._∷_ 58 (List._∷_ 65 (List._∷_ 110 (List._∷_ 115 (List._∷_ 119 (List._∷_ 101 (List._∷_ 114 List.[]))))))))))))) (Syntax.tcons (Syntax.tyEnum (List._∷_ 114 (List._∷_ 117 (List._∷_ 108 (List._∷_ 101 (List._∷_ 115 (List._∷_ 58 (List._∷_ 58 (List._∷_ 79 (List._∷_ 117 (List._∷_ 116 (List._∷_ 99 (List._∷_ 111 (List._∷_ 109 (List._∷_ 101 List.[])))))))))))))) (Syntax.ttcons Syntax.tnil (Syntax.ttcons (Syntax.tcons (Syntax.tyInt Syntax.w16) Syntax.tnil) (Syntax.ttcons (Syntax.tcons (Syntax.tyInt Syntax.w16) Syntax.tnil) Syntax.ttnil)))) (Syntax.tcons (Syntax.tyInt Syntax.w64) (Syntax.tcons (Syntax.tyInt Syntax.w64) Syntax.tnil)))) (Syntax.tcons (Syntax.tyStruct (List._∷_ 112 (List._∷_ 111 (List._∷_ 115 (List._∷_ 105 (List._∷_ 116 (List._∷_ 105 (List._∷_ 111 (List._∷_ 110 (List._∷_ 58 (List._∷_ 58 (List._∷_ 80 (List._∷_ 111 (List._∷_ 115 (List._∷_ 105 (List._∷_ 116 (List._∷_ 105 (List._∷_ 111 (List._∷_ 110 (List._∷_ 83 (List._∷_ 121 (List._∷_ 110 (List._∷_ 116 (List._∷_ 97 (List._∷_ 120 List.[])))))))))))))))))))))))) (Syntax.tcons Syntax.tyBool (Syntax.tcons Syntax.tyBool (Syntax.tcons (Syntax.tyInt Syntax.w64) (Syntax.tcons (Syntax.tyInt Syntax.w64) (Syntax.tcons (Syntax.tyInt Syntax.w64) (Syntax.tcons Syntax.tyBool Syntax.tnil))))))) Syntax.tnil)))) (List._∷_ (9, Rows.any-gone (Syntax.tyStruct (List._∷_ 114 (List._∷_ 117 (List._∷_ 108 (List._∷_ 101 (List._∷_ 115 (List._∷_ 58 (List._∷_ 58 (List._∷_ 65 (List._∷_ 110 (List._∷_ 115 (List._∷_ 119 (List._∷_ 101 (List._∷_ 114 List.[]))))))))))))) (Syntax.tcons (Syntax.tyEnum (List._∷_ 114 (List._∷_ 117 (List._∷_ 108 (List._∷_ 101 (List._∷_ 115 (List._∷_ 58 (List._∷_ 58 (List._∷_ 79 (List._∷_ 117 (List._∷_ 116 (List._∷_ 99 (List._∷_ 111 (List._∷_ 109 (List._∷_ 101 List.[])))))))))))))) (Syntax.ttcons Syntax.tnil (Syntax.ttcons (Syntax.tcons (Syntax.tyInt Syntax.w16) Syntax.tnil) (Syntax.ttcons (Syntax.tcons (Syntax.tyInt Syntax.w16) Syntax.tnil) Syntax.ttnil)))) (Syntax.tcons (Syntax.tyInt Syntax.w64) (Syntax.tcons (Syntax.tyInt Syntax.w64) Syntax.tnil))))) (List._∷_ (10, Rows.any-gone (Syntax.tyEnum (List._∷_ 114 (List._∷_ 117 (List._∷_ 108 (List._∷_ 101 (List._∷_ 115 (List._∷_ 58 (List._∷_ 58 (List._∷_ 79 (List._∷_ 117 (List._∷_ 116 (List._∷_ 99 (List._∷_ 111 (List._∷_ 109 (List._∷_ 101 List.[])))))))))))))) (Syntax.ttcons Syntax.tnil (Syntax.ttcons (Syntax.tcons (Syntax.tyInt Syntax.w16) Syntax.tnil) (Syntax.ttcons (Syntax.tcons (Syntax.tyInt Syntax.w16) Syntax.tnil) Syntax.ttnil))))) (List._∷_ (11, Rows.any-gone (Syntax.tyStruct (List._∷_ 112 (List._∷_ 111 (List._∷_ 115 (List._∷_ 105 (List._∷_ 116 (List._∷_ 105 (List._∷_ 111 (List._∷_ 110 (List._∷_ 58 (List._∷_ 58 (List._∷_ 80 (List._∷_ 111 (List._∷_ 115 (List._∷_ 105 (List._∷_ 116 (List._∷_ 105 (List._∷_ 111 (List._∷_ 110 (List._∷_ 83 (List._∷_ 121 (List._∷_ 110 (List._∷_ 116 (List._∷_ 97 (List._∷_ 120 List.[])))))))))))))))))))))))) (Syntax.tcons Syntax.tyBool (Syntax.tcons Syntax.tyBool (Syntax.tcons (Syntax.tyInt Syntax.w64) (Syntax.tcons (Syntax.tyInt Syntax.w64) (Syntax.tcons (Syntax.tyInt Syntax.w64) (Syntax.tcons Syntax.tyBool Syntax.tnil)))))))) (List._∷_ (12, Rows.any-gone (Syntax.tyRef Syntax.erased Syntax.imm Lent.refS)) (List._∷_ (13, Rows.any-gone (Syntax.tyRef Syntax.erased Syntax.mut (Syntax.tyInt Syntax.w64))) (List._∷_ (14, Rows.any-gone (Syntax.tyStruct (List._∷_ 38 (List._∷_ 91 (List._∷_ 93 List.[]))) (Syntax.tcons (Syntax.tyRef Syntax.erased Syntax.mut (Syntax.tyInt Syntax.w64)) (Syntax.tcons (Syntax.tyInt Syntax.w64) Syntax.tnil)))) (List._∷_ (15, Rows.any-gone Syntax.tyBool) List.[])))))))))))))))
 
 abbrev pub t27 : List.List Row.Entry
-t27 = List._∷_ (0, Rows.whole (Declared'.row Answer.the-type)) (List._∷_ (1, Rows.sslice (Referent.rtF (Referent.fInt Syntax.w8)) (Syntax.tyRef (Syntax.named 0) Syntax.imm (Syntax.tyInt Syntax.w8)) 0) (List._∷_ (2, Rows.any-gone (Syntax.tyInt Syntax.w64)) (List._∷_ (3, Rows.sc-here Row.sBool) (List._∷_ (4, Mut.mslice (Referent.rtF (Referent.fInt Syntax.w64)) (Syntax.tyRef (Syntax.named 1) Syntax.mut (Syntax.tyInt Syntax.w64)) 1) (List._∷_ (5, Rows.mref Lent.R (Syntax.tyRef (Syntax.named 2) Syntax.mut Lent.refS) 2) (List._∷_ (6, Rows.sc-here Row.sBool) (List._∷_ (7, Rows.any-gone (Syntax.tyStruct (List._∷_ 112 (List._∷_ 111 (List._∷_ 115 (List._∷_ 105 (List._∷_ 116 (List._∷_ 105 (List._∷_ 111 (List._∷_ 110 (List._∷_ 58 (List._∷_ 58 (List._∷_ 80 (List._∷_ 111 (List._∷_ 115 (List._∷_ 105 (List._∷_ 116 (List._∷_ 105 (List._∷_ 111 (List._∷_ 110 (List._∷_ 83 (List._∷_ 121 (List._∷_ 110 (List._∷_ 116 (List._∷_ 97 (List._∷_ 120 List.[])))))))))))))))))))))))) (Syntax.tcons Syntax.tyBool (Syntax.tcons Syntax.tyBool (Syntax.tcons (Syntax.tyInt Syntax.w64) (Syntax.tcons (Syntax.tyInt Syntax.w64) (Syntax.tcons (Syntax.tyInt Syntax.w64) (Syntax.tcons Syntax.tyBool Syntax.tnil)))))))) (List._∷_ (8, Rows.any-gone (Syntax.tyStruct (List._∷_ 112 (List._∷_ 111 (List._∷_ 115 (List._∷_ 105 (List._∷_ 116 (List._∷_ 105 (List._∷_ 111 (List._∷_ 110 (List._∷_ 58 (List._∷_ 58 (List._∷_ 80 (List._∷_ 111 (List._∷_ 115 (List._∷_ 105 (List._∷_ 116 (List._∷_ 105 (List._∷_ 111 (List._∷_ 110 (List._∷_ 65 (List._∷_ 110 (List._∷_ 115 (List._∷_ 119 (List._∷_ 101 (List._∷_ 114 List.[])))))))))))))))))))))))) (Syntax.tcons (Syntax.tyStruct (List._∷_ 114 (List._∷_ 117 (List._∷_ 108 (List._∷_ 101 (List._∷_ 115 (List._∷_ 58 (List._∷_ 58 (List._∷_ 65 (List._∷_ 110 (List._∷_ 115 (List._∷_ 119 (List._∷_ 101 (List._∷_ 114 List.[]))))))))))))) (Syntax.tcons (Syntax.tyEnum (List._∷_ 114 (List._∷_ 117 (List._∷_ 108 (List._∷_ 101 (List._∷_ 115 (List._∷_ 58 (List._∷_ 58 (List._∷_ 79 (List._∷_ 117 (List._∷_ 116 (List._∷_ 99 (List._∷_ 111 (List._∷_ 109 (List._∷_ 101 List.[])))))))))))))) (Syntax.ttcons Syntax.tnil (Syntax.ttcons (Syntax.tcons (Syntax.tyInt Syntax.w16) Syntax.tnil) (Syntax.ttcons (Syntax.tcons (Syntax.tyInt Syntax.w16) Syntax.tnil) Syntax.ttnil)))) (Syntax.tcons (Syntax.tyInt Syntax.w64) (Syntax.tcons (Syntax.tyInt Syntax.w64) Syntax.tnil)))) (Syntax.tcons (Syntax.tyStruct (List._∷_ 112 (List._∷_ 111 (List._∷_ 115 (List._∷_ 105 (List._∷_ 116 (List._∷_ 105 (List._∷_ 111 (List._∷_ 110 (List._∷_ 58 (List._∷_ 58 (List._∷_ 80 (List._∷_ 111 (List._∷_ 115 (List._∷_ 105 (List._∷_ 116 (List._∷_ 105 (List._∷_ 111 (List._∷_ 110 (List._∷_ 83 (List._∷_ 121 (List._∷_ 110 (List._∷_ 116 (List._∷_ 97 (List._∷_ 120 List.[])))))))))))))))))))))))) (Syntax.tcons Syntax.tyBool (Syntax.tcons Syntax.tyBool (Syntax.tcons (Syntax.tyInt Syntax.w64) (Syntax.tcons (Syntax.tyInt Syntax.w64) (Syntax.tcons (Syntax.tyInt Syntax.w64) (Syntax.tcons Syntax.tyBool Syntax.tnil))))))) Syntax.tnil)))) (List._∷_ (9, Rows.any-gone (Syntax.tyStruct (List._∷_ 114 (List._∷_ 117 (List._∷_ 108 (List._∷_ 101 (List._∷_ 115 (List._∷_ 58 (List._∷_ 58 (List._∷_ 65 (List._∷_ 110 (List._∷_ 115 (List._∷_ 119 (List._∷_ 101 (List._∷_ 114 List.[]))))))))))))) (Syntax.tcons (Syntax.tyEnum (List._∷_ 114 (List._∷_ 117 (List._∷_ 108 (List._∷_ 101 (List._∷_ 115 (List._∷_ 58 (List._∷_ 58 (List._∷_ 79 (List._∷_ 117 (List._∷_ 116 (List._∷_ 99 (List._∷_ 111 (List._∷_ 109 (List._∷_ 101 List.[])))))))))))))) (Syntax.ttcons Syntax.tnil (Syntax.ttcons (Syntax.tcons (Syntax.tyInt Syntax.w16) Syntax.tnil) (Syntax.ttcons (Syntax.tcons (Syntax.tyInt Syntax.w16) Syntax.tnil) Syntax.ttnil)))) (Syntax.tcons (Syntax.tyInt Syntax.w64) (Syntax.tcons (Syntax.tyInt Syntax.w64) Syntax.tnil))))) (List._∷_ (10, Rows.any-gone (Syntax.tyEnum (List._∷_ 114 (List._∷_ 117 (List._∷_ 108 (List._∷_ 101 (List._∷_ 115 (List._∷_ 58 (List._∷_ 58 (List._∷_ 79 (List._∷_ 117 (List._∷_ 116 (List._∷_ 99 (List._∷_ 111 (List._∷_ 109 (List._∷_ 101 List.[])))))))))))))) (Syntax.ttcons Syntax.tnil (Syntax.ttcons (Syntax.tcons (Syntax.tyInt Syntax.w16) Syntax.tnil) (Syntax.ttcons (Syntax.tcons (Syntax.tyInt Syntax.w16) Syntax.tnil) Syntax.ttnil))))) (List._∷_ (11, Rows.any-gone (Syntax.tyStruct (List._∷_ 112 (List._∷_ 111 (List._∷_ 115 (List._∷_ 105 (List._∷_ 116 (List._∷_ 105 (List._∷_ 111 (List._∷_ 110 (List._∷_ 58 (List._∷_ 58 (List._∷_ 80 (List._∷_ 111 (List._∷_ 115 (List._∷_ 105 (List._∷_ 116 (List._∷_ 105 (List._∷_ 111 (List._∷_ 110 (List._∷_ 83 (List._∷_ 121 (List._∷_ 110 (List._∷_ 116 (List._∷_ 97 (List._∷_ 120 List.[])))))))))))))))))))))))) (Syntax.tcons Syntax.tyBool (Syntax.tcons Syntax.tyBool (Syntax.tcons (Syntax.tyInt Syntax.w64) (Syntax.tcons (Syntax.tyInt Syntax.w64) (Syntax.tcons (Syntax.tyInt Syntax.w64) (Syntax.tcons Syntax.tyBool Syntax.tnil)))))))) (List._∷_ (12, Rows.any-gone (Syntax.tyRef Syntax.erased Syntax.imm Lent.refS)) (List._∷_ (13, Rows.any-gone (Syntax.tyRef Syntax.erased Syntax.mut (Syntax.tyInt Syntax.w64))) (List._∷_ (14, Rows.any-gone (Syntax.tyStruct (List._∷_ 38 (List._∷_ 91 (List._∷_ 93 List.[]))) (Syntax.tcons (Syntax.tyRef Syntax.erased Syntax.mut (Syntax.tyInt Syntax.w64)) (Syntax.tcons (Syntax.tyInt Syntax.w64) Syntax.tnil)))) (List._∷_ (15, Rows.any-gone Syntax.tyBool) List.[])))))))))))))))
+t27 = List._∷_ (0, Rows.whole (Declared'.row Answer.the-type)) (List._∷_ (1, Rows.sslice (Referent.rtF (Referent.fInt Syntax.w8)) (Syntax.tyRef (Syntax.named 0) Syntax.imm (Syntax.tyInt Syntax.w8)) 0) (List._∷_ (2, Rows.any-gone (Syntax.tyInt Syntax.w64)) (List._∷_ (3, Rows.sc-here Row.sBool) (List._∷_ (4, Mut.mslice (Referent.rtF (Referent.fInt Syntax.w64)) (Syntax.tyRef (Syntax.named 1) Syntax.mut (Syntax.tyInt Syntax.w64)) 1) (List._∷_ (5, Rows.mref Lent.R (Syntax.tyRef (Syntax.named 2) Syntax.mut Lent.refS) 2) (List._∷_ (6, Rows.sc-here Row.sBool) (List._∷_ (7, Rows.any-gone (Syntax.tyStruct (List._∷_ 112 (List._∷_ 111 (List._∷_ 115 (List._∷_ 105 (List._∷_ 116 (List._∷_ 105 (List._∷_ 111 (List._∷_ 110 (List._∷_ 58 (List._∷_ 58 (List._∷_ 80 (List._∷_ 111 (List._∷_ 115 (List._∷_ 105 (List._∷_ 116 (List._∷_ 105 (List._∷_ 111 (List._∷_ 110 (List._∷_ 83 (List._∷_ 121 (List._∷_ 110 (List._∷_ 116 (List._∷_ 97 (List._∷_ 120 List.[])))))))))))))))))))))))) (Syntax.tcons Syntax.tyBool (Syntax.tcons Syntax.tyBool (Syntax.tcons (Syntax.tyInt Syntax.w64) (Syntax.tcons (Syntax.tyInt Syntax.w64) (Syntax.tcons (Syntax.tyInt Syntax.w64) (Syntax.tcons Syntax.tyBool Syntax.tnil)))))))) (List._∷_ (8, Rows.any-gone (Syntax.tyStruct (List._∷_ 112 (List._∷_ 111 (List._∷_ 115 (List._∷_ 105 (List._∷_ 116 (List._∷_ 105 (List._∷_ 111 (List._∷_ 110 (List._∷_ 95 (List._∷_ 97 (List._∷_ 108 (List._∷_ 111 (List._∷_ 110 (List._∷_ 101 (List._∷_ 58 (List._∷_ 58 (List._∷_ 80 (List._∷_ 111 (List._∷_ 115 (List._∷_ 105 (List._∷_ 116 (List._∷_ 105 (List._∷_ 111 (List._∷_ 110 (List._∷_ 65 (List._∷_ 110 (List._∷_ 115 (List._∷_ 119 (List._∷_ 101 (List._∷_ 114 List.[])))))))))))))))))))))))))))))) (Syntax.tcons (Syntax.tyStruct (List._∷_ 114 (List._∷_ 117 (List._∷_ 108 (List._∷_ 101 (List._∷_ 115 (List._∷_ 58 (List._∷_ 58 (List._∷_ 65 (List._∷_ 110 (List._∷_ 115 (List._∷_ 119 (List._∷_ 101 (List._∷_ 114 List.[]))))))))))))) (Syntax.tcons (Syntax.tyEnum (List._∷_ 114 (List._∷_ 117 (List._∷_ 108 (List._∷_ 101 (List._∷_ 115 (List._∷_ 58 (List._∷_ 58 (List._∷_ 79 (List._∷_ 117 (List._∷_ 116 (List._∷_ 99 (List._∷_ 111 (List._∷_ 109 (List._∷_ 101 List.[])))))))))))))) (Syntax.ttcons Syntax.tnil (Syntax.ttcons (Syntax.tcons (Syntax.tyInt Syntax.w16) Syntax.tnil) (Syntax.ttcons (Syntax.tcons (Syntax.tyInt Syntax.w16) Syntax.tnil) Syntax.ttnil)))) (Syntax.tcons (Syntax.tyInt Syntax.w64) (Syntax.tcons (Syntax.tyInt Syntax.w64) Syntax.tnil)))) (Syntax.tcons (Syntax.tyStruct (List._∷_ 112 (List._∷_ 111 (List._∷_ 115 (List._∷_ 105 (List._∷_ 116 (List._∷_ 105 (List._∷_ 111 (List._∷_ 110 (List._∷_ 58 (List._∷_ 58 (List._∷_ 80 (List._∷_ 111 (List._∷_ 115 (List._∷_ 105 (List._∷_ 116 (List._∷_ 105 (List._∷_ 111 (List._∷_ 110 (List._∷_ 83 (List._∷_ 121 (List._∷_ 110 (List._∷_ 116 (List._∷_ 97 (List._∷_ 120 List.[])))))))))))))))))))))))) (Syntax.tcons Syntax.tyBool (Syntax.tcons Syntax.tyBool (Syntax.tcons (Syntax.tyInt Syntax.w64) (Syntax.tcons (Syntax.tyInt Syntax.w64) (Syntax.tcons (Syntax.tyInt Syntax.w64) (Syntax.tcons Syntax.tyBool Syntax.tnil))))))) Syntax.tnil)))) (List._∷_ (9, Rows.any-gone (Syntax.tyStruct (List._∷_ 114 (List._∷_ 117 (List._∷_ 108 (List._∷_ 101 (List._∷_ 115 (List._∷_ 58 (List._∷_ 58 (List._∷_ 65 (List._∷_ 110 (List._∷_ 115 (List._∷_ 119 (List._∷_ 101 (List._∷_ 114 List.[]))))))))))))) (Syntax.tcons (Syntax.tyEnum (List._∷_ 114 (List._∷_ 117 (List._∷_ 108 (List._∷_ 101 (List._∷_ 115 (List._∷_ 58 (List._∷_ 58 (List._∷_ 79 (List._∷_ 117 (List._∷_ 116 (List._∷_ 99 (List._∷_ 111 (List._∷_ 109 (List._∷_ 101 List.[])))))))))))))) (Syntax.ttcons Syntax.tnil (Syntax.ttcons (Syntax.tcons (Syntax.tyInt Syntax.w16) Syntax.tnil) (Syntax.ttcons (Syntax.tcons (Syntax.tyInt Syntax.w16) Syntax.tnil) Syntax.ttnil)))) (Syntax.tcons (Syntax.tyInt Syntax.w64) (Syntax.tcons (Syntax.tyInt Syntax.w64) Syntax.tnil))))) (List._∷_ (10, Rows.any-gone (Syntax.tyEnum (List._∷_ 114 (List._∷_ 117 (List._∷_ 108 (List._∷_ 101 (List._∷_ 115 (List._∷_ 58 (List._∷_ 58 (List._∷_ 79 (List._∷_ 117 (List._∷_ 116 (List._∷_ 99 (List._∷_ 111 (List._∷_ 109 (List._∷_ 101 List.[])))))))))))))) (Syntax.ttcons Syntax.tnil (Syntax.ttcons (Syntax.tcons (Syntax.tyInt Syntax.w16) Syntax.tnil) (Syntax.ttcons (Syntax.tcons (Syntax.tyInt Syntax.w16) Syntax.tnil) Syntax.ttnil))))) (List._∷_ (11, Rows.any-gone (Syntax.tyStruct (List._∷_ 112 (List._∷_ 111 (List._∷_ 115 (List._∷_ 105 (List._∷_ 116 (List._∷_ 105 (List._∷_ 111 (List._∷_ 110 (List._∷_ 58 (List._∷_ 58 (List._∷_ 80 (List._∷_ 111 (List._∷_ 115 (List._∷_ 105 (List._∷_ 116 (List._∷_ 105 (List._∷_ 111 (List._∷_ 110 (List._∷_ 83 (List._∷_ 121 (List._∷_ 110 (List._∷_ 116 (List._∷_ 97 (List._∷_ 120 List.[])))))))))))))))))))))))) (Syntax.tcons Syntax.tyBool (Syntax.tcons Syntax.tyBool (Syntax.tcons (Syntax.tyInt Syntax.w64) (Syntax.tcons (Syntax.tyInt Syntax.w64) (Syntax.tcons (Syntax.tyInt Syntax.w64) (Syntax.tcons Syntax.tyBool Syntax.tnil)))))))) (List._∷_ (12, Rows.any-gone (Syntax.tyRef Syntax.erased Syntax.imm Lent.refS)) (List._∷_ (13, Rows.any-gone (Syntax.tyRef Syntax.erased Syntax.mut (Syntax.tyInt Syntax.w64))) (List._∷_ (14, Rows.any-gone (Syntax.tyStruct (List._∷_ 38 (List._∷_ 91 (List._∷_ 93 List.[]))) (Syntax.tcons (Syntax.tyRef Syntax.erased Syntax.mut (Syntax.tyInt Syntax.w64)) (Syntax.tcons (Syntax.tyInt Syntax.w64) Syntax.tnil)))) (List._∷_ (15, Rows.any-gone Syntax.tyBool) List.[])))))))))))))))
 
 abbrev pub t28 : List.List Row.Entry
-t28 = List._∷_ (0, Rows.whole (Declared'.row Answer.the-type)) (List._∷_ (1, Rows.sslice (Referent.rtF (Referent.fInt Syntax.w8)) (Syntax.tyRef (Syntax.named 0) Syntax.imm (Syntax.tyInt Syntax.w8)) 0) (List._∷_ (2, Rows.any-gone (Syntax.tyInt Syntax.w64)) (List._∷_ (3, Rows.any-gone Syntax.tyBool) (List._∷_ (4, Mut.mslice (Referent.rtF (Referent.fInt Syntax.w64)) (Syntax.tyRef (Syntax.named 1) Syntax.mut (Syntax.tyInt Syntax.w64)) 1) (List._∷_ (5, Rows.mref Lent.R (Syntax.tyRef (Syntax.named 2) Syntax.mut Lent.refS) 2) (List._∷_ (6, Rows.sc-here Row.sBool) (List._∷_ (7, Rows.any-gone (Syntax.tyStruct (List._∷_ 112 (List._∷_ 111 (List._∷_ 115 (List._∷_ 105 (List._∷_ 116 (List._∷_ 105 (List._∷_ 111 (List._∷_ 110 (List._∷_ 58 (List._∷_ 58 (List._∷_ 80 (List._∷_ 111 (List._∷_ 115 (List._∷_ 105 (List._∷_ 116 (List._∷_ 105 (List._∷_ 111 (List._∷_ 110 (List._∷_ 83 (List._∷_ 121 (List._∷_ 110 (List._∷_ 116 (List._∷_ 97 (List._∷_ 120 List.[])))))))))))))))))))))))) (Syntax.tcons Syntax.tyBool (Syntax.tcons Syntax.tyBool (Syntax.tcons (Syntax.tyInt Syntax.w64) (Syntax.tcons (Syntax.tyInt Syntax.w64) (Syntax.tcons (Syntax.tyInt Syntax.w64) (Syntax.tcons Syntax.tyBool Syntax.tnil)))))))) (List._∷_ (8, Rows.any-gone (Syntax.tyStruct (List._∷_ 112 (List._∷_ 111 (List._∷_ 115 (List._∷_ 105 (List._∷_ 116 (List._∷_ 105 (List._∷_ 111 (List._∷_ 110 (List._∷_ 58 (List._∷_ 58 (List._∷_ 80 (List._∷_ 111 (List._∷_ 115 (List._∷_ 105 (List._∷_ 116 (List._∷_ 105 (List._∷_ 111 (List._∷_ 110 (List._∷_ 65 (List._∷_ 110 (List._∷_ 115 (List._∷_ 119 (List._∷_ 101 (List._∷_ 114 List.[])))))))))))))))))))))))) (Syntax.tcons (Syntax.tyStruct (List._∷_ 114 (List._∷_ 117 (List._∷_ 108 (List._∷_ 101 (List._∷_ 115 (List._∷_ 58 (List._∷_ 58 (List._∷_ 65 (List._∷_ 110 (List._∷_ 115 (List._∷_ 119 (List._∷_ 101 (List._∷_ 114 List.[]))))))))))))) (Syntax.tcons (Syntax.tyEnum (List._∷_ 114 (List._∷_ 117 (List._∷_ 108 (List._∷_ 101 (List._∷_ 115 (List._∷_ 58 (List._∷_ 58 (List._∷_ 79 (List._∷_ 117 (List._∷_ 116 (List._∷_ 99 (List._∷_ 111 (List._∷_ 109 (List._∷_ 101 List.[])))))))))))))) (Syntax.ttcons Syntax.tnil (Syntax.ttcons (Syntax.tcons (Syntax.tyInt Syntax.w16) Syntax.tnil) (Syntax.ttcons (Syntax.tcons (Syntax.tyInt Syntax.w16) Syntax.tnil) Syntax.ttnil)))) (Syntax.tcons (Syntax.tyInt Syntax.w64) (Syntax.tcons (Syntax.tyInt Syntax.w64) Syntax.tnil)))) (Syntax.tcons (Syntax.tyStruct (List._∷_ 112 (List._∷_ 111 (List._∷_ 115 (List._∷_ 105 (List._∷_ 116 (List._∷_ 105 (List._∷_ 111 (List._∷_ 110 (List._∷_ 58 (List._∷_ 58 (List._∷_ 80 (List._∷_ 111 (List._∷_ 115 (List._∷_ 105 (List._∷_ 116 (List._∷_ 105 (List._∷_ 111 (List._∷_ 110 (List._∷_ 83 (List._∷_ 121 (List._∷_ 110 (List._∷_ 116 (List._∷_ 97 (List._∷_ 120 List.[])))))))))))))))))))))))) (Syntax.tcons Syntax.tyBool (Syntax.tcons Syntax.tyBool (Syntax.tcons (Syntax.tyInt Syntax.w64) (Syntax.tcons (Syntax.tyInt Syntax.w64) (Syntax.tcons (Syntax.tyInt Syntax.w64) (Syntax.tcons Syntax.tyBool Syntax.tnil))))))) Syntax.tnil)))) (List._∷_ (9, Rows.any-gone (Syntax.tyStruct (List._∷_ 114 (List._∷_ 117 (List._∷_ 108 (List._∷_ 101 (List._∷_ 115 (List._∷_ 58 (List._∷_ 58 (List._∷_ 65 (List._∷_ 110 (List._∷_ 115 (List._∷_ 119 (List._∷_ 101 (List._∷_ 114 List.[]))))))))))))) (Syntax.tcons (Syntax.tyEnum (List._∷_ 114 (List._∷_ 117 (List._∷_ 108 (List._∷_ 101 (List._∷_ 115 (List._∷_ 58 (List._∷_ 58 (List._∷_ 79 (List._∷_ 117 (List._∷_ 116 (List._∷_ 99 (List._∷_ 111 (List._∷_ 109 (List._∷_ 101 List.[])))))))))))))) (Syntax.ttcons Syntax.tnil (Syntax.ttcons (Syntax.tcons (Syntax.tyInt Syntax.w16) Syntax.tnil) (Syntax.ttcons (Syntax.tcons (Syntax.tyInt Syntax.w16) Syntax.tnil) Syntax.ttnil)))) (Syntax.tcons (Syntax.tyInt Syntax.w64) (Syntax.tcons (Syntax.tyInt Syntax.w64) Syntax.tnil))))) (List._∷_ (10, Rows.any-gone (Syntax.tyEnum (List._∷_ 114 (List._∷_ 117 (List._∷_ 108 (List._∷_ 101 (List._∷_ 115 (List._∷_ 58 (List._∷_ 58 (List._∷_ 79 (List._∷_ 117 (List._∷_ 116 (List._∷_ 99 (List._∷_ 111 (List._∷_ 109 (List._∷_ 101 List.[])))))))))))))) (Syntax.ttcons Syntax.tnil (Syntax.ttcons (Syntax.tcons (Syntax.tyInt Syntax.w16) Syntax.tnil) (Syntax.ttcons (Syntax.tcons (Syntax.tyInt Syntax.w16) Syntax.tnil) Syntax.ttnil))))) (List._∷_ (11, Rows.any-gone (Syntax.tyStruct (List._∷_ 112 (List._∷_ 111 (List._∷_ 115 (List._∷_ 105 (List._∷_ 116 (List._∷_ 105 (List._∷_ 111 (List._∷_ 110 (List._∷_ 58 (List._∷_ 58 (List._∷_ 80 (List._∷_ 111 (List._∷_ 115 (List._∷_ 105 (List._∷_ 116 (List._∷_ 105 (List._∷_ 111 (List._∷_ 110 (List._∷_ 83 (List._∷_ 121 (List._∷_ 110 (List._∷_ 116 (List._∷_ 97 (List._∷_ 120 List.[])))))))))))))))))))))))) (Syntax.tcons Syntax.tyBool (Syntax.tcons Syntax.tyBool (Syntax.tcons (Syntax.tyInt Syntax.w64) (Syntax.tcons (Syntax.tyInt Syntax.w64) (Syntax.tcons (Syntax.tyInt Syntax.w64) (Syntax.tcons Syntax.tyBool Syntax.tnil)))))))) (List._∷_ (12, Rows.any-gone (Syntax.tyRef Syntax.erased Syntax.imm Lent.refS)) (List._∷_ (13, Rows.any-gone (Syntax.tyRef Syntax.erased Syntax.mut (Syntax.tyInt Syntax.w64))) (List._∷_ (14, Rows.any-gone (Syntax.tyStruct (List._∷_ 38 (List._∷_ 91 (List._∷_ 93 List.[]))) (Syntax.tcons (Syntax.tyRef Syntax.erased Syntax.mut (Syntax.tyInt Syntax.w64)) (Syntax.tcons (Syntax.tyInt Syntax.w64) Syntax.tnil)))) (List._∷_ (15, Rows.any-gone Syntax.tyBool) List.[])))))))))))))))
+t28 = List._∷_ (0, Rows.whole (Declared'.row Answer.the-type)) (List._∷_ (1, Rows.sslice (Referent.rtF (Referent.fInt Syntax.w8)) (Syntax.tyRef (Syntax.named 0) Syntax.imm (Syntax.tyInt Syntax.w8)) 0) (List._∷_ (2, Rows.any-gone (Syntax.tyInt Syntax.w64)) (List._∷_ (3, Rows.any-gone Syntax.tyBool) (List._∷_ (4, Mut.mslice (Referent.rtF (Referent.fInt Syntax.w64)) (Syntax.tyRef (Syntax.named 1) Syntax.mut (Syntax.tyInt Syntax.w64)) 1) (List._∷_ (5, Rows.mref Lent.R (Syntax.tyRef (Syntax.named 2) Syntax.mut Lent.refS) 2) (List._∷_ (6, Rows.sc-here Row.sBool) (List._∷_ (7, Rows.any-gone (Syntax.tyStruct (List._∷_ 112 (List._∷_ 111 (List._∷_ 115 (List._∷_ 105 (List._∷_ 116 (List._∷_ 105 (List._∷_ 111 (List._∷_ 110 (List._∷_ 58 (List._∷_ 58 (List._∷_ 80 (List._∷_ 111 (List._∷_ 115 (List._∷_ 105 (List._∷_ 116 (List._∷_ 105 (List._∷_ 111 (List._∷_ 110 (List._∷_ 83 (List._∷_ 121 (List._∷_ 110 (List._∷_ 116 (List._∷_ 97 (List._∷_ 120 List.[])))))))))))))))))))))))) (Syntax.tcons Syntax.tyBool (Syntax.tcons Syntax.tyBool (Syntax.tcons (Syntax.tyInt Syntax.w64) (Syntax.tcons (Syntax.tyInt Syntax.w64) (Syntax.tcons (Syntax.tyInt Syntax.w64) (Syntax.tcons Syntax.tyBool Syntax.tnil)))))))) (List._∷_ (8, Rows.any-gone (Syntax.tyStruct (List._∷_ 112 (List._∷_ 111 (List._∷_ 115 (List._∷_ 105 (List._∷_ 116 (List._∷_ 105 (List._∷_ 111 (List._∷_ 110 (List._∷_ 95 (List._∷_ 97 (List._∷_ 108 (List._∷_ 111 (List._∷_ 110 (List._∷_ 101 (List._∷_ 58 (List._∷_ 58 (List._∷_ 80 (List._∷_ 111 (List._∷_ 115 (List._∷_ 105 (List._∷_ 116 (List._∷_ 105 (List._∷_ 111 (List._∷_ 110 (List._∷_ 65 (List._∷_ 110 (List._∷_ 115 (List._∷_ 119 (List._∷_ 101 (List._∷_ 114 List.[])))))))))))))))))))))))))))))) (Syntax.tcons (Syntax.tyStruct (List._∷_ 114 (List._∷_ 117 (List._∷_ 108 (List._∷_ 101 (List._∷_ 115 (List._∷_ 58 (List._∷_ 58 (List._∷_ 65 (List._∷_ 110 (List._∷_ 115 (List._∷_ 119 (List._∷_ 101 (List._∷_ 114 List.[]))))))))))))) (Syntax.tcons (Syntax.tyEnum (List._∷_ 114 (List._∷_ 117 (List._∷_ 108 (List._∷_ 101 (List._∷_ 115 (List._∷_ 58 (List._∷_ 58 (List._∷_ 79 (List._∷_ 117 (List._∷_ 116 (List._∷_ 99 (List._∷_ 111 (List._∷_ 109 (List._∷_ 101 List.[])))))))))))))) (Syntax.ttcons Syntax.tnil (Syntax.ttcons (Syntax.tcons (Syntax.tyInt Syntax.w16) Syntax.tnil) (Syntax.ttcons (Syntax.tcons (Syntax.tyInt Syntax.w16) Syntax.tnil) Syntax.ttnil)))) (Syntax.tcons (Syntax.tyInt Syntax.w64) (Syntax.tcons (Syntax.tyInt Syntax.w64) Syntax.tnil)))) (Syntax.tcons (Syntax.tyStruct (List._∷_ 112 (List._∷_ 111 (List._∷_ 115 (List._∷_ 105 (List._∷_ 116 (List._∷_ 105 (List._∷_ 111 (List._∷_ 110 (List._∷_ 58 (List._∷_ 58 (List._∷_ 80 (List._∷_ 111 (List._∷_ 115 (List._∷_ 105 (List._∷_ 116 (List._∷_ 105 (List._∷_ 111 (List._∷_ 110 (List._∷_ 83 (List._∷_ 121 (List._∷_ 110 (List._∷_ 116 (List._∷_ 97 (List._∷_ 120 List.[])))))))))))))))))))))))) (Syntax.tcons Syntax.tyBool (Syntax.tcons Syntax.tyBool (Syntax.tcons (Syntax.tyInt Syntax.w64) (Syntax.tcons (Syntax.tyInt Syntax.w64) (Syntax.tcons (Syntax.tyInt Syntax.w64) (Syntax.tcons Syntax.tyBool Syntax.tnil))))))) Syntax.tnil)))) (List._∷_ (9, Rows.any-gone (Syntax.tyStruct (List._∷_ 114 (List._∷_ 117 (List._∷_ 108 (List._∷_ 101 (List._∷_ 115 (List._∷_ 58 (List._∷_ 58 (List._∷_ 65 (List._∷_ 110 (List._∷_ 115 (List._∷_ 119 (List._∷_ 101 (List._∷_ 114 List.[]))))))))))))) (Syntax.tcons (Syntax.tyEnum (List._∷_ 114 (List._∷_ 117 (List._∷_ 108 (List._∷_ 101 (List._∷_ 115 (List._∷_ 58 (List._∷_ 58 (List._∷_ 79 (List._∷_ 117 (List._∷_ 116 (List._∷_ 99 (List._∷_ 111 (List._∷_ 109 (List._∷_ 101 List.[])))))))))))))) (Syntax.ttcons Syntax.tnil (Syntax.ttcons (Syntax.tcons (Syntax.tyInt Syntax.w16) Syntax.tnil) (Syntax.ttcons (Syntax.tcons (Syntax.tyInt Syntax.w16) Syntax.tnil) Syntax.ttnil)))) (Syntax.tcons (Syntax.tyInt Syntax.w64) (Syntax.tcons (Syntax.tyInt Syntax.w64) Syntax.tnil))))) (List._∷_ (10, Rows.any-gone (Syntax.tyEnum (List._∷_ 114 (List._∷_ 117 (List._∷_ 108 (List._∷_ 101 (List._∷_ 115 (List._∷_ 58 (List._∷_ 58 (List._∷_ 79 (List._∷_ 117 (List._∷_ 116 (List._∷_ 99 (List._∷_ 111 (List._∷_ 109 (List._∷_ 101 List.[])))))))))))))) (Syntax.ttcons Syntax.tnil (Syntax.ttcons (Syntax.tcons (Syntax.tyInt Syntax.w16) Syntax.tnil) (Syntax.ttcons (Syntax.tcons (Syntax.tyInt Syntax.w16) Syntax.tnil) Syntax.ttnil))))) (List._∷_ (11, Rows.any-gone (Syntax.tyStruct (List._∷_ 112 (List._∷_ 111 (List._∷_ 115 (List._∷_ 105 (List._∷_ 116 (List._∷_ 105 (List._∷_ 111 (List._∷_ 110 (List._∷_ 58 (List._∷_ 58 (List._∷_ 80 (List._∷_ 111 (List._∷_ 115 (List._∷_ 105 (List._∷_ 116 (List._∷_ 105 (List._∷_ 111 (List._∷_ 110 (List._∷_ 83 (List._∷_ 121 (List._∷_ 110 (List._∷_ 116 (List._∷_ 97 (List._∷_ 120 List.[])))))))))))))))))))))))) (Syntax.tcons Syntax.tyBool (Syntax.tcons Syntax.tyBool (Syntax.tcons (Syntax.tyInt Syntax.w64) (Syntax.tcons (Syntax.tyInt Syntax.w64) (Syntax.tcons (Syntax.tyInt Syntax.w64) (Syntax.tcons Syntax.tyBool Syntax.tnil)))))))) (List._∷_ (12, Rows.any-gone (Syntax.tyRef Syntax.erased Syntax.imm Lent.refS)) (List._∷_ (13, Rows.any-gone (Syntax.tyRef Syntax.erased Syntax.mut (Syntax.tyInt Syntax.w64))) (List._∷_ (14, Rows.any-gone (Syntax.tyStruct (List._∷_ 38 (List._∷_ 91 (List._∷_ 93 List.[]))) (Syntax.tcons (Syntax.tyRef Syntax.erased Syntax.mut (Syntax.tyInt Syntax.w64)) (Syntax.tcons (Syntax.tyInt Syntax.w64) Syntax.tnil)))) (List._∷_ (15, Rows.any-gone Syntax.tyBool) List.[])))))))))))))))
 
 abbrev pub T0 : Row.Cx
 T0 = record { locals = List._++_ t0 t1; slots = List.[] }
@@ -421,7 +421,7 @@ module _ (claims· : Claims) where
   s11 = λ bs. Relend.k-sl-aggregate (Referent.rtF (Referent.fInt Syntax.w64)) (Relend.asMut (Referent.rtF (Referent.fInt Syntax.w64))) T12 13 14 4 (Syntax.tyRef Syntax.erased Syntax.mut (Syntax.tyInt Syntax.w64)) (Syntax.tyRef Syntax.erased Syntax.mut (Syntax.tyInt Syntax.w64)) (λ x. x) (Scalar.oFld 4 (List._∷_ (Syntax.field 1) List.[]) (Syntax.tyInt Syntax.w64) 8 λ v. Shared.lenV (v .0))
 
   abbrev s12 : (bs : List.List Nat.ℕ) → Typed.Both T13 T14
-  s12 = λ bs. Call.callB ps·1 r·1 (claims· .2) (claims· .3) T13 (record { pos = 1; ty = Syntax.tyRef (Syntax.named 0) Syntax.imm (Syntax.tyInt Syntax.w8); ref = λ x. x }, (Num.vAt 2 λ x. x, (Bool.bAt 3 λ x. x, (record { pos = 14; ty = Syntax.tyRef Syntax.erased Syntax.mut (Syntax.tyInt Syntax.w64); ref = λ x. x }, (record { pos = 7; st = List.[]; d = 0; at = λ x. x }, (Bool.bAt 6 λ x. x, tt)))))) 8 (List._∷_ 0 (List._∷_ 4 List.[])) (Syntax.tyStruct (List._∷_ 112 (List._∷_ 111 (List._∷_ 115 (List._∷_ 105 (List._∷_ 116 (List._∷_ 105 (List._∷_ 111 (List._∷_ 110 (List._∷_ 58 (List._∷_ 58 (List._∷_ 80 (List._∷_ 111 (List._∷_ 115 (List._∷_ 105 (List._∷_ 116 (List._∷_ 105 (List._∷_ 111 (List._∷_ 110 (List._∷_ 65 (List._∷_ 110 (List._∷_ 115 (List._∷_ 119 (List._∷_ 101 (List._∷_ 114 List.[])))))))))))))))))))))))) (Syntax.tcons (Syntax.tyStruct (List._∷_ 114 (List._∷_ 117 (List._∷_ 108 (List._∷_ 101 (List._∷_ 115 (List._∷_ 58 (List._∷_ 58 (List._∷_ 65 (List._∷_ 110 (List._∷_ 115 (List._∷_ 119 (List._∷_ 101 (List._∷_ 114 List.[]))))))))))))) (Syntax.tcons (Syntax.tyEnum (List._∷_ 114 (List._∷_ 117 (List._∷_ 108 (List._∷_ 101 (List._∷_ 115 (List._∷_ 58 (List._∷_ 58 (List._∷_ 79 (List._∷_ 117 (List._∷_ 116 (List._∷_ 99 (List._∷_ 111 (List._∷_ 109 (List._∷_ 101 List.[])))))))))))))) (Syntax.ttcons Syntax.tnil (Syntax.ttcons (Syntax.tcons (Syntax.tyInt Syntax.w16) Syntax.tnil) (Syntax.ttcons (Syntax.tcons (Syntax.tyInt Syntax.w16) Syntax.tnil) Syntax.ttnil)))) (Syntax.tcons (Syntax.tyInt Syntax.w64) (Syntax.tcons (Syntax.tyInt Syntax.w64) Syntax.tnil)))) (Syntax.tcons (Syntax.tyStruct (List._∷_ 112 (List._∷_ 111 (List._∷_ 115 (List._∷_ 105 (List._∷_ 116 (List._∷_ 105 (List._∷_ 111 (List._∷_ 110 (List._∷_ 58 (List._∷_ 58 (List._∷_ 80 (List._∷_ 111 (List._∷_ 115 (List._∷_ 105 (List._∷_ 116 (List._∷_ 105 (List._∷_ 111 (List._∷_ 110 (List._∷_ 83 (List._∷_ 121 (List._∷_ 110 (List._∷_ 116 (List._∷_ 97 (List._∷_ 120 List.[])))))))))))))))))))))))) (Syntax.tcons Syntax.tyBool (Syntax.tcons Syntax.tyBool (Syntax.tcons (Syntax.tyInt Syntax.w64) (Syntax.tcons (Syntax.tyInt Syntax.w64) (Syntax.tcons (Syntax.tyInt Syntax.w64) (Syntax.tcons Syntax.tyBool Syntax.tnil))))))) Syntax.tnil)))
+  s12 = λ bs. Call.callB ps·1 r·1 (claims· .2) (claims· .3) T13 (record { pos = 1; ty = Syntax.tyRef (Syntax.named 0) Syntax.imm (Syntax.tyInt Syntax.w8); ref = λ x. x }, (Num.vAt 2 λ x. x, (Bool.bAt 3 λ x. x, (record { pos = 14; ty = Syntax.tyRef Syntax.erased Syntax.mut (Syntax.tyInt Syntax.w64); ref = λ x. x }, (record { pos = 7; st = List.[]; d = 0; at = λ x. x }, (Bool.bAt 6 λ x. x, tt)))))) 8 (List._∷_ 0 (List._∷_ 4 List.[])) (Syntax.tyStruct (List._∷_ 112 (List._∷_ 111 (List._∷_ 115 (List._∷_ 105 (List._∷_ 116 (List._∷_ 105 (List._∷_ 111 (List._∷_ 110 (List._∷_ 95 (List._∷_ 97 (List._∷_ 108 (List._∷_ 111 (List._∷_ 110 (List._∷_ 101 (List._∷_ 58 (List._∷_ 58 (List._∷_ 80 (List._∷_ 111 (List._∷_ 115 (List._∷_ 105 (List._∷_ 116 (List._∷_ 105 (List._∷_ 111 (List._∷_ 110 (List._∷_ 65 (List._∷_ 110 (List._∷_ 115 (List._∷_ 119 (List._∷_ 101 (List._∷_ 114 List.[])))))))))))))))))))))))))))))) (Syntax.tcons (Syntax.tyStruct (List._∷_ 114 (List._∷_ 117 (List._∷_ 108 (List._∷_ 101 (List._∷_ 115 (List._∷_ 58 (List._∷_ 58 (List._∷_ 65 (List._∷_ 110 (List._∷_ 115 (List._∷_ 119 (List._∷_ 101 (List._∷_ 114 List.[]))))))))))))) (Syntax.tcons (Syntax.tyEnum (List._∷_ 114 (List._∷_ 117 (List._∷_ 108 (List._∷_ 101 (List._∷_ 115 (List._∷_ 58 (List._∷_ 58 (List._∷_ 79 (List._∷_ 117 (List._∷_ 116 (List._∷_ 99 (List._∷_ 111 (List._∷_ 109 (List._∷_ 101 List.[])))))))))))))) (Syntax.ttcons Syntax.tnil (Syntax.ttcons (Syntax.tcons (Syntax.tyInt Syntax.w16) Syntax.tnil) (Syntax.ttcons (Syntax.tcons (Syntax.tyInt Syntax.w16) Syntax.tnil) Syntax.ttnil)))) (Syntax.tcons (Syntax.tyInt Syntax.w64) (Syntax.tcons (Syntax.tyInt Syntax.w64) Syntax.tnil)))) (Syntax.tcons (Syntax.tyStruct (List._∷_ 112 (List._∷_ 111 (List._∷_ 115 (List._∷_ 105 (List._∷_ 116 (List._∷_ 105 (List._∷_ 111 (List._∷_ 110 (List._∷_ 58 (List._∷_ 58 (List._∷_ 80 (List._∷_ 111 (List._∷_ 115 (List._∷_ 105 (List._∷_ 116 (List._∷_ 105 (List._∷_ 111 (List._∷_ 110 (List._∷_ 83 (List._∷_ 121 (List._∷_ 110 (List._∷_ 116 (List._∷_ 97 (List._∷_ 120 List.[])))))))))))))))))))))))) (Syntax.tcons Syntax.tyBool (Syntax.tcons Syntax.tyBool (Syntax.tcons (Syntax.tyInt Syntax.w64) (Syntax.tcons (Syntax.tyInt Syntax.w64) (Syntax.tcons (Syntax.tyInt Syntax.w64) (Syntax.tcons Syntax.tyBool Syntax.tnil))))))) Syntax.tnil)))
 
   abbrev s13 : (bs : List.List Nat.ℕ) → Typed.Mo T14 → Typed.Mo T15
   s13 = λ bs. Scalar.n-room T14 7 (Syntax.tyStruct (List._∷_ 112 (List._∷_ 111 (List._∷_ 115 (List._∷_ 105 (List._∷_ 116 (List._∷_ 105 (List._∷_ 111 (List._∷_ 110 (List._∷_ 58 (List._∷_ 58 (List._∷_ 80 (List._∷_ 111 (List._∷_ 115 (List._∷_ 105 (List._∷_ 116 (List._∷_ 105 (List._∷_ 111 (List._∷_ 110 (List._∷_ 83 (List._∷_ 121 (List._∷_ 110 (List._∷_ 116 (List._∷_ 97 (List._∷_ 120 List.[])))))))))))))))))))))))) (Syntax.tcons Syntax.tyBool (Syntax.tcons Syntax.tyBool (Syntax.tcons (Syntax.tyInt Syntax.w64) (Syntax.tcons (Syntax.tyInt Syntax.w64) (Syntax.tcons (Syntax.tyInt Syntax.w64) (Syntax.tcons Syntax.tyBool Syntax.tnil)))))))
@@ -451,7 +451,7 @@ module _ (claims· : Claims) where
   s23 = λ bs. WayStmt.k-way-copy-out T25 (Row.out 8 (T25 .locals)) (λ u. Row.drop 8 (T25 .locals) u) 11 (Rows.whole (Declared'.row PositionSyntax.the-type)) (λ u. At.getAt (PositionAnswer.the-type .parts) 1 (PositionAnswer.struct .as-values (u .1 .1 .1 .1 .1 .1 .1 .1 .0))) (λ T′. record { locals = Row.setRow 8 (8, Rows.whole (Declared'.row PositionAnswer.the-type)) T′; slots = List.[] }) (λ u T′ m′. Row.set 8 (8, Rows.whole (Declared'.row PositionAnswer.the-type)) (u .1 .1 .1 .1 .1 .1 .1 .1 .0) T′ m′) (λ u. Unit) λ u. Unit
 
   abbrev s24 : (bs : List.List Nat.ℕ) → Typed.Mo T26 → Typed.Mo T27
-  s24 = λ bs. Scalar.n-room T26 8 (Syntax.tyStruct (List._∷_ 112 (List._∷_ 111 (List._∷_ 115 (List._∷_ 105 (List._∷_ 116 (List._∷_ 105 (List._∷_ 111 (List._∷_ 110 (List._∷_ 58 (List._∷_ 58 (List._∷_ 80 (List._∷_ 111 (List._∷_ 115 (List._∷_ 105 (List._∷_ 116 (List._∷_ 105 (List._∷_ 111 (List._∷_ 110 (List._∷_ 65 (List._∷_ 110 (List._∷_ 115 (List._∷_ 119 (List._∷_ 101 (List._∷_ 114 List.[])))))))))))))))))))))))) (Syntax.tcons (Syntax.tyStruct (List._∷_ 114 (List._∷_ 117 (List._∷_ 108 (List._∷_ 101 (List._∷_ 115 (List._∷_ 58 (List._∷_ 58 (List._∷_ 65 (List._∷_ 110 (List._∷_ 115 (List._∷_ 119 (List._∷_ 101 (List._∷_ 114 List.[]))))))))))))) (Syntax.tcons (Syntax.tyEnum (List._∷_ 114 (List._∷_ 117 (List._∷_ 108 (List._∷_ 101 (List._∷_ 115 (List._∷_ 58 (List._∷_ 58 (List._∷_ 79 (List._∷_ 117 (List._∷_ 116 (List._∷_ 99 (List._∷_ 111 (List._∷_ 109 (List._∷_ 101 List.[])))))))))))))) (Syntax.ttcons Syntax.tnil (Syntax.ttcons (Syntax.tcons (Syntax.tyInt Syntax.w16) Syntax.tnil) (Syntax.ttcons (Syntax.tcons (Syntax.tyInt Syntax.w16) Syntax.tnil) Syntax.ttnil)))) (Syntax.tcons (Syntax.tyInt Syntax.w64) (Syntax.tcons (Syntax.tyInt Syntax.w64) Syntax.tnil)))) (Syntax.tcons (Syntax.tyStruct (List._∷_ 112 (List._∷_ 111 (List._∷_ 115 (List._∷_ 105 (List._∷_ 116 (List._∷_ 105 (List._∷_ 111 (List._∷_ 110 (List._∷_ 58 (List._∷_ 58 (List._∷_ 80 (List._∷_ 111 (List._∷_ 115 (List._∷_ 105 (List._∷_ 116 (List._∷_ 105 (List._∷_ 111 (List._∷_ 110 (List._∷_ 83 (List._∷_ 121 (List._∷_ 110 (List._∷_ 116 (List._∷_ 97 (List._∷_ 120 List.[])))))))))))))))))))))))) (Syntax.tcons Syntax.tyBool (Syntax.tcons Syntax.tyBool (Syntax.tcons (Syntax.tyInt Syntax.w64) (Syntax.tcons (Syntax.tyInt Syntax.w64) (Syntax.tcons (Syntax.tyInt Syntax.w64) (Syntax.tcons Syntax.tyBool Syntax.tnil))))))) Syntax.tnil)))
+  s24 = λ bs. Scalar.n-room T26 8 (Syntax.tyStruct (List._∷_ 112 (List._∷_ 111 (List._∷_ 115 (List._∷_ 105 (List._∷_ 116 (List._∷_ 105 (List._∷_ 111 (List._∷_ 110 (List._∷_ 95 (List._∷_ 97 (List._∷_ 108 (List._∷_ 111 (List._∷_ 110 (List._∷_ 101 (List._∷_ 58 (List._∷_ 58 (List._∷_ 80 (List._∷_ 111 (List._∷_ 115 (List._∷_ 105 (List._∷_ 116 (List._∷_ 105 (List._∷_ 111 (List._∷_ 110 (List._∷_ 65 (List._∷_ 110 (List._∷_ 115 (List._∷_ 119 (List._∷_ 101 (List._∷_ 114 List.[])))))))))))))))))))))))))))))) (Syntax.tcons (Syntax.tyStruct (List._∷_ 114 (List._∷_ 117 (List._∷_ 108 (List._∷_ 101 (List._∷_ 115 (List._∷_ 58 (List._∷_ 58 (List._∷_ 65 (List._∷_ 110 (List._∷_ 115 (List._∷_ 119 (List._∷_ 101 (List._∷_ 114 List.[]))))))))))))) (Syntax.tcons (Syntax.tyEnum (List._∷_ 114 (List._∷_ 117 (List._∷_ 108 (List._∷_ 101 (List._∷_ 115 (List._∷_ 58 (List._∷_ 58 (List._∷_ 79 (List._∷_ 117 (List._∷_ 116 (List._∷_ 99 (List._∷_ 111 (List._∷_ 109 (List._∷_ 101 List.[])))))))))))))) (Syntax.ttcons Syntax.tnil (Syntax.ttcons (Syntax.tcons (Syntax.tyInt Syntax.w16) Syntax.tnil) (Syntax.ttcons (Syntax.tcons (Syntax.tyInt Syntax.w16) Syntax.tnil) Syntax.ttnil)))) (Syntax.tcons (Syntax.tyInt Syntax.w64) (Syntax.tcons (Syntax.tyInt Syntax.w64) Syntax.tnil)))) (Syntax.tcons (Syntax.tyStruct (List._∷_ 112 (List._∷_ 111 (List._∷_ 115 (List._∷_ 105 (List._∷_ 116 (List._∷_ 105 (List._∷_ 111 (List._∷_ 110 (List._∷_ 58 (List._∷_ 58 (List._∷_ 80 (List._∷_ 111 (List._∷_ 115 (List._∷_ 105 (List._∷_ 116 (List._∷_ 105 (List._∷_ 111 (List._∷_ 110 (List._∷_ 83 (List._∷_ 121 (List._∷_ 110 (List._∷_ 116 (List._∷_ 97 (List._∷_ 120 List.[])))))))))))))))))))))))) (Syntax.tcons Syntax.tyBool (Syntax.tcons Syntax.tyBool (Syntax.tcons (Syntax.tyInt Syntax.w64) (Syntax.tcons (Syntax.tyInt Syntax.w64) (Syntax.tcons (Syntax.tyInt Syntax.w64) (Syntax.tcons Syntax.tyBool Syntax.tnil))))))) Syntax.tnil)))
 
   abbrev s26 : (bs : List.List Nat.ℕ) → Typed.Gives T27 T29
   s26 = λ bs. Reborrow.k-mref-relend T27 5 17 2 5 Lent.R (Syntax.tyRef (Syntax.named 2) Syntax.mut Lent.refS) (Syntax.tyRef Syntax.erased Syntax.mut Lent.refS) Row.off List.[] λ x. x
@@ -469,7 +469,7 @@ module _ (claims· : Claims) where
   s31 = λ bs. Reborrow.k-back-mref T32 17 5 2 Lent.R (Syntax.tyRef (Syntax.named 2) Syntax.mut Lent.refS) (Syntax.tyRef Syntax.erased Syntax.mut Lent.refS) List.[] (λ x. x) λ x. x
 
   abbrev s33 : (bs : List.List Nat.ℕ) → Typed.Mo T24 → Typed.Mo T36
-  s33 = λ bs. Scalar.n-room T24 8 (Syntax.tyStruct (List._∷_ 112 (List._∷_ 111 (List._∷_ 115 (List._∷_ 105 (List._∷_ 116 (List._∷_ 105 (List._∷_ 111 (List._∷_ 110 (List._∷_ 58 (List._∷_ 58 (List._∷_ 80 (List._∷_ 111 (List._∷_ 115 (List._∷_ 105 (List._∷_ 116 (List._∷_ 105 (List._∷_ 111 (List._∷_ 110 (List._∷_ 65 (List._∷_ 110 (List._∷_ 115 (List._∷_ 119 (List._∷_ 101 (List._∷_ 114 List.[])))))))))))))))))))))))) (Syntax.tcons (Syntax.tyStruct (List._∷_ 114 (List._∷_ 117 (List._∷_ 108 (List._∷_ 101 (List._∷_ 115 (List._∷_ 58 (List._∷_ 58 (List._∷_ 65 (List._∷_ 110 (List._∷_ 115 (List._∷_ 119 (List._∷_ 101 (List._∷_ 114 List.[]))))))))))))) (Syntax.tcons (Syntax.tyEnum (List._∷_ 114 (List._∷_ 117 (List._∷_ 108 (List._∷_ 101 (List._∷_ 115 (List._∷_ 58 (List._∷_ 58 (List._∷_ 79 (List._∷_ 117 (List._∷_ 116 (List._∷_ 99 (List._∷_ 111 (List._∷_ 109 (List._∷_ 101 List.[])))))))))))))) (Syntax.ttcons Syntax.tnil (Syntax.ttcons (Syntax.tcons (Syntax.tyInt Syntax.w16) Syntax.tnil) (Syntax.ttcons (Syntax.tcons (Syntax.tyInt Syntax.w16) Syntax.tnil) Syntax.ttnil)))) (Syntax.tcons (Syntax.tyInt Syntax.w64) (Syntax.tcons (Syntax.tyInt Syntax.w64) Syntax.tnil)))) (Syntax.tcons (Syntax.tyStruct (List._∷_ 112 (List._∷_ 111 (List._∷_ 115 (List._∷_ 105 (List._∷_ 116 (List._∷_ 105 (List._∷_ 111 (List._∷_ 110 (List._∷_ 58 (List._∷_ 58 (List._∷_ 80 (List._∷_ 111 (List._∷_ 115 (List._∷_ 105 (List._∷_ 116 (List._∷_ 105 (List._∷_ 111 (List._∷_ 110 (List._∷_ 83 (List._∷_ 121 (List._∷_ 110 (List._∷_ 116 (List._∷_ 97 (List._∷_ 120 List.[])))))))))))))))))))))))) (Syntax.tcons Syntax.tyBool (Syntax.tcons Syntax.tyBool (Syntax.tcons (Syntax.tyInt Syntax.w64) (Syntax.tcons (Syntax.tyInt Syntax.w64) (Syntax.tcons (Syntax.tyInt Syntax.w64) (Syntax.tcons Syntax.tyBool Syntax.tnil))))))) Syntax.tnil)))
+  s33 = λ bs. Scalar.n-room T24 8 (Syntax.tyStruct (List._∷_ 112 (List._∷_ 111 (List._∷_ 115 (List._∷_ 105 (List._∷_ 116 (List._∷_ 105 (List._∷_ 111 (List._∷_ 110 (List._∷_ 95 (List._∷_ 97 (List._∷_ 108 (List._∷_ 111 (List._∷_ 110 (List._∷_ 101 (List._∷_ 58 (List._∷_ 58 (List._∷_ 80 (List._∷_ 111 (List._∷_ 115 (List._∷_ 105 (List._∷_ 116 (List._∷_ 105 (List._∷_ 111 (List._∷_ 110 (List._∷_ 65 (List._∷_ 110 (List._∷_ 115 (List._∷_ 119 (List._∷_ 101 (List._∷_ 114 List.[])))))))))))))))))))))))))))))) (Syntax.tcons (Syntax.tyStruct (List._∷_ 114 (List._∷_ 117 (List._∷_ 108 (List._∷_ 101 (List._∷_ 115 (List._∷_ 58 (List._∷_ 58 (List._∷_ 65 (List._∷_ 110 (List._∷_ 115 (List._∷_ 119 (List._∷_ 101 (List._∷_ 114 List.[]))))))))))))) (Syntax.tcons (Syntax.tyEnum (List._∷_ 114 (List._∷_ 117 (List._∷_ 108 (List._∷_ 101 (List._∷_ 115 (List._∷_ 58 (List._∷_ 58 (List._∷_ 79 (List._∷_ 117 (List._∷_ 116 (List._∷_ 99 (List._∷_ 111 (List._∷_ 109 (List._∷_ 101 List.[])))))))))))))) (Syntax.ttcons Syntax.tnil (Syntax.ttcons (Syntax.tcons (Syntax.tyInt Syntax.w16) Syntax.tnil) (Syntax.ttcons (Syntax.tcons (Syntax.tyInt Syntax.w16) Syntax.tnil) Syntax.ttnil)))) (Syntax.tcons (Syntax.tyInt Syntax.w64) (Syntax.tcons (Syntax.tyInt Syntax.w64) Syntax.tnil)))) (Syntax.tcons (Syntax.tyStruct (List._∷_ 112 (List._∷_ 111 (List._∷_ 115 (List._∷_ 105 (List._∷_ 116 (List._∷_ 105 (List._∷_ 111 (List._∷_ 110 (List._∷_ 58 (List._∷_ 58 (List._∷_ 80 (List._∷_ 111 (List._∷_ 115 (List._∷_ 105 (List._∷_ 116 (List._∷_ 105 (List._∷_ 111 (List._∷_ 110 (List._∷_ 83 (List._∷_ 121 (List._∷_ 110 (List._∷_ 116 (List._∷_ 97 (List._∷_ 120 List.[])))))))))))))))))))))))) (Syntax.tcons Syntax.tyBool (Syntax.tcons Syntax.tyBool (Syntax.tcons (Syntax.tyInt Syntax.w64) (Syntax.tcons (Syntax.tyInt Syntax.w64) (Syntax.tcons (Syntax.tyInt Syntax.w64) (Syntax.tcons Syntax.tyBool Syntax.tnil))))))) Syntax.tnil)))
 
   abbrev s34 : (bs : List.List Nat.ℕ) → Typed.Mo T36 → Typed.Mo T37
   s34 = λ bs. Scalar.n-room T36 15 Syntax.tyBool
@@ -492,7 +492,7 @@ module _ (claims· : Claims) where
   module _ (Pre· : (κs : Lifetimes.Lfts 3) → Kinds.Dens κs ps → Type 0) (Post· : (κs : Lifetimes.Lfts 3) → (a : Kinds.Dens κs ps) → Kinds.Plain 3 ps r κs) where
     module _ (M : Type 1) where
       abbrev pub Closed : Type 2
-      Closed = (𝓤 : URA.URA M) (H : Wp.Heap 𝓤) (A : Atoms.Atoms 𝓤) (W : Kit.Given 𝓤 H A) (𝓣 : Wp.Tables 𝓤 H) (known0 : Plain.Known 𝓤 H A W 𝓣 1 ps·0 r·0 (claims· .0) (claims· .1) "lent::shape_of") (known1 : Plain.Known 𝓤 H A W 𝓣 2 ps·1 r·1 (claims· .2) (claims· .3) "position::read_position") (known2 : Plain.Known 𝓤 H A W 𝓣 0 ps·2 r·2 (claims· .4) (claims· .5) "rules::Outcome::is_read") (known3 : Plain.Known 𝓤 H A W 𝓣 1 ps·3 r·3 (claims· .6) (claims· .7) "lent::set_shape") → Statement.Triple 𝓤 (Wp.WpFn 𝓤 H (𝓣 .C) (𝓣 .Λ) (Function.fnOf 3 ps r xs m hs body)) (Function.plainOf 𝓤 H A 3 ps r Pre· Post·)
+      Closed = (𝓤 : URA.URA M) (H : Wp.Heap 𝓤) (A : Atoms.Atoms 𝓤) (W : Kit.Given 𝓤 H A) (𝓣 : Wp.Tables 𝓤 H) (known0 : Plain.Known 𝓤 H A W 𝓣 1 ps·0 r·0 (claims· .0) (claims· .1) "lent::shape_of") (known1 : Plain.Known 𝓤 H A W 𝓣 2 ps·1 r·1 (claims· .2) (claims· .3) "position_alone::read_position") (known2 : Plain.Known 𝓤 H A W 𝓣 0 ps·2 r·2 (claims· .4) (claims· .5) "rules::Outcome::is_read") (known3 : Plain.Known 𝓤 H A W 𝓣 1 ps·3 r·3 (claims· .6) (claims· .7) "lent::set_shape") → Statement.Triple 𝓤 (Wp.WpFn 𝓤 H (𝓣 .C) (𝓣 .Λ) (Function.fnOf 3 ps r xs m hs body)) (Function.plainOf 𝓤 H A 3 ps r Pre· Post·)
 
     module _ where
       abbrev at0 : (bs : List.List Nat.ℕ) → Typed.TF T29 O1
@@ -617,23 +617,23 @@ module _ (claims· : Claims) where
 
       module _ {M : Type 1} (𝓤 : URA.URA M) (H : Wp.Heap 𝓤) (A : Atoms.Atoms 𝓤) (W : Kit.Given 𝓤 H A) (𝓣 : Wp.Tables 𝓤 H) where
         abbrev Knowns : Type 1
-        Knowns = Plain.Known 𝓤 H A W 𝓣 1 ps·0 r·0 (claims· .0) (claims· .1) "lent::shape_of" × Plain.Known 𝓤 H A W 𝓣 2 ps·1 r·1 (claims· .2) (claims· .3) "position::read_position" × Plain.Known 𝓤 H A W 𝓣 0 ps·2 r·2 (claims· .4) (claims· .5) "rules::Outcome::is_read" × Plain.Known 𝓤 H A W 𝓣 1 ps·3 r·3 (claims· .6) (claims· .7) "lent::set_shape"
+        Knowns = Plain.Known 𝓤 H A W 𝓣 1 ps·0 r·0 (claims· .0) (claims· .1) "lent::shape_of" × Plain.Known 𝓤 H A W 𝓣 2 ps·1 r·1 (claims· .2) (claims· .3) "position_alone::read_position" × Plain.Known 𝓤 H A W 𝓣 0 ps·2 r·2 (claims· .4) (claims· .5) "rules::Outcome::is_read" × Plain.Known 𝓤 H A W 𝓣 1 ps·3 r·3 (claims· .6) (claims· .7) "lent::set_shape"
 
       module _ (κs : Lifetimes.Lfts 3) (qs : Lifetimes.Shares 3) where
         abbrev g3 : List.List Row.Entry
-        g3 = List._∷_ (0, Rows.any-gone (Syntax.tyStruct (List._∷_ 114 (List._∷_ 117 (List._∷_ 108 (List._∷_ 101 (List._∷_ 115 (List._∷_ 58 (List._∷_ 58 (List._∷_ 65 (List._∷_ 110 (List._∷_ 115 (List._∷_ 119 (List._∷_ 101 (List._∷_ 114 List.[]))))))))))))) (Syntax.tcons (Syntax.tyEnum (List._∷_ 114 (List._∷_ 117 (List._∷_ 108 (List._∷_ 101 (List._∷_ 115 (List._∷_ 58 (List._∷_ 58 (List._∷_ 79 (List._∷_ 117 (List._∷_ 116 (List._∷_ 99 (List._∷_ 111 (List._∷_ 109 (List._∷_ 101 List.[])))))))))))))) (Syntax.ttcons Syntax.tnil (Syntax.ttcons (Syntax.tcons (Syntax.tyInt Syntax.w16) Syntax.tnil) (Syntax.ttcons (Syntax.tcons (Syntax.tyInt Syntax.w16) Syntax.tnil) Syntax.ttnil)))) (Syntax.tcons (Syntax.tyInt Syntax.w64) (Syntax.tcons (Syntax.tyInt Syntax.w64) Syntax.tnil))))) (List._∷_ (1, Rows.sslice (Referent.rtF (Referent.fInt Syntax.w8)) (Syntax.tyRef (Syntax.named 0) Syntax.imm (Syntax.tyInt Syntax.w8)) 0) (List._∷_ (2, Rows.sc-here (Row.sInt Syntax.w64)) (List._∷_ (3, Rows.sc-here Row.sBool) (List._∷_ (4, Mut.mslice (Referent.rtF (Referent.fInt Syntax.w64)) (Syntax.tyRef (Syntax.named 1) Syntax.mut (Syntax.tyInt Syntax.w64)) 1) (List._∷_ (5, Reshare.mref-owedS Lent.R (Syntax.tyRef (Syntax.named 2) Syntax.mut Lent.refS) 2 3 (Row.lease (κs .1 .1 .0) (qs .1 .1 .0))) (List._∷_ (6, Rows.sc-here Row.sBool) (List._∷_ (7, Rows.any-gone (Syntax.tyStruct (List._∷_ 112 (List._∷_ 111 (List._∷_ 115 (List._∷_ 105 (List._∷_ 116 (List._∷_ 105 (List._∷_ 111 (List._∷_ 110 (List._∷_ 58 (List._∷_ 58 (List._∷_ 80 (List._∷_ 111 (List._∷_ 115 (List._∷_ 105 (List._∷_ 116 (List._∷_ 105 (List._∷_ 111 (List._∷_ 110 (List._∷_ 83 (List._∷_ 121 (List._∷_ 110 (List._∷_ 116 (List._∷_ 97 (List._∷_ 120 List.[])))))))))))))))))))))))) (Syntax.tcons Syntax.tyBool (Syntax.tcons Syntax.tyBool (Syntax.tcons (Syntax.tyInt Syntax.w64) (Syntax.tcons (Syntax.tyInt Syntax.w64) (Syntax.tcons (Syntax.tyInt Syntax.w64) (Syntax.tcons Syntax.tyBool Syntax.tnil)))))))) (List._∷_ (8, Rows.any-gone (Syntax.tyStruct (List._∷_ 112 (List._∷_ 111 (List._∷_ 115 (List._∷_ 105 (List._∷_ 116 (List._∷_ 105 (List._∷_ 111 (List._∷_ 110 (List._∷_ 58 (List._∷_ 58 (List._∷_ 80 (List._∷_ 111 (List._∷_ 115 (List._∷_ 105 (List._∷_ 116 (List._∷_ 105 (List._∷_ 111 (List._∷_ 110 (List._∷_ 65 (List._∷_ 110 (List._∷_ 115 (List._∷_ 119 (List._∷_ 101 (List._∷_ 114 List.[])))))))))))))))))))))))) (Syntax.tcons (Syntax.tyStruct (List._∷_ 114 (List._∷_ 117 (List._∷_ 108 (List._∷_ 101 (List._∷_ 115 (List._∷_ 58 (List._∷_ 58 (List._∷_ 65 (List._∷_ 110 (List._∷_ 115 (List._∷_ 119 (List._∷_ 101 (List._∷_ 114 List.[]))))))))))))) (Syntax.tcons (Syntax.tyEnum (List._∷_ 114 (List._∷_ 117 (List._∷_ 108 (List._∷_ 101 (List._∷_ 115 (List._∷_ 58 (List._∷_ 58 (List._∷_ 79 (List._∷_ 117 (List._∷_ 116 (List._∷_ 99 (List._∷_ 111 (List._∷_ 109 (List._∷_ 101 List.[])))))))))))))) (Syntax.ttcons Syntax.tnil (Syntax.ttcons (Syntax.tcons (Syntax.tyInt Syntax.w16) Syntax.tnil) (Syntax.ttcons (Syntax.tcons (Syntax.tyInt Syntax.w16) Syntax.tnil) Syntax.ttnil)))) (Syntax.tcons (Syntax.tyInt Syntax.w64) (Syntax.tcons (Syntax.tyInt Syntax.w64) Syntax.tnil)))) (Syntax.tcons (Syntax.tyStruct (List._∷_ 112 (List._∷_ 111 (List._∷_ 115 (List._∷_ 105 (List._∷_ 116 (List._∷_ 105 (List._∷_ 111 (List._∷_ 110 (List._∷_ 58 (List._∷_ 58 (List._∷_ 80 (List._∷_ 111 (List._∷_ 115 (List._∷_ 105 (List._∷_ 116 (List._∷_ 105 (List._∷_ 111 (List._∷_ 110 (List._∷_ 83 (List._∷_ 121 (List._∷_ 110 (List._∷_ 116 (List._∷_ 97 (List._∷_ 120 List.[])))))))))))))))))))))))) (Syntax.tcons Syntax.tyBool (Syntax.tcons Syntax.tyBool (Syntax.tcons (Syntax.tyInt Syntax.w64) (Syntax.tcons (Syntax.tyInt Syntax.w64) (Syntax.tcons (Syntax.tyInt Syntax.w64) (Syntax.tcons Syntax.tyBool Syntax.tnil))))))) Syntax.tnil)))) (List._∷_ (9, Rows.any-gone (Syntax.tyStruct (List._∷_ 114 (List._∷_ 117 (List._∷_ 108 (List._∷_ 101 (List._∷_ 115 (List._∷_ 58 (List._∷_ 58 (List._∷_ 65 (List._∷_ 110 (List._∷_ 115 (List._∷_ 119 (List._∷_ 101 (List._∷_ 114 List.[]))))))))))))) (Syntax.tcons (Syntax.tyEnum (List._∷_ 114 (List._∷_ 117 (List._∷_ 108 (List._∷_ 101 (List._∷_ 115 (List._∷_ 58 (List._∷_ 58 (List._∷_ 79 (List._∷_ 117 (List._∷_ 116 (List._∷_ 99 (List._∷_ 111 (List._∷_ 109 (List._∷_ 101 List.[])))))))))))))) (Syntax.ttcons Syntax.tnil (Syntax.ttcons (Syntax.tcons (Syntax.tyInt Syntax.w16) Syntax.tnil) (Syntax.ttcons (Syntax.tcons (Syntax.tyInt Syntax.w16) Syntax.tnil) Syntax.ttnil)))) (Syntax.tcons (Syntax.tyInt Syntax.w64) (Syntax.tcons (Syntax.tyInt Syntax.w64) Syntax.tnil))))) (List._∷_ (10, Rows.any-gone (Syntax.tyEnum (List._∷_ 114 (List._∷_ 117 (List._∷_ 108 (List._∷_ 101 (List._∷_ 115 (List._∷_ 58 (List._∷_ 58 (List._∷_ 79 (List._∷_ 117 (List._∷_ 116 (List._∷_ 99 (List._∷_ 111 (List._∷_ 109 (List._∷_ 101 List.[])))))))))))))) (Syntax.ttcons Syntax.tnil (Syntax.ttcons (Syntax.tcons (Syntax.tyInt Syntax.w16) Syntax.tnil) (Syntax.ttcons (Syntax.tcons (Syntax.tyInt Syntax.w16) Syntax.tnil) Syntax.ttnil))))) (List._∷_ (11, Rows.any-gone (Syntax.tyStruct (List._∷_ 112 (List._∷_ 111 (List._∷_ 115 (List._∷_ 105 (List._∷_ 116 (List._∷_ 105 (List._∷_ 111 (List._∷_ 110 (List._∷_ 58 (List._∷_ 58 (List._∷_ 80 (List._∷_ 111 (List._∷_ 115 (List._∷_ 105 (List._∷_ 116 (List._∷_ 105 (List._∷_ 111 (List._∷_ 110 (List._∷_ 83 (List._∷_ 121 (List._∷_ 110 (List._∷_ 116 (List._∷_ 97 (List._∷_ 120 List.[])))))))))))))))))))))))) (Syntax.tcons Syntax.tyBool (Syntax.tcons Syntax.tyBool (Syntax.tcons (Syntax.tyInt Syntax.w64) (Syntax.tcons (Syntax.tyInt Syntax.w64) (Syntax.tcons (Syntax.tyInt Syntax.w64) (Syntax.tcons Syntax.tyBool Syntax.tnil)))))))) (List._∷_ (12, Rows.sref Lent.R (Syntax.tyRef Syntax.erased Syntax.imm Lent.refS) 3) (List._∷_ (13, Rows.any-gone (Syntax.tyRef Syntax.erased Syntax.mut (Syntax.tyInt Syntax.w64))) (List._∷_ (14, Rows.any-gone (Syntax.tyStruct (List._∷_ 38 (List._∷_ 91 (List._∷_ 93 List.[]))) (Syntax.tcons (Syntax.tyRef Syntax.erased Syntax.mut (Syntax.tyInt Syntax.w64)) (Syntax.tcons (Syntax.tyInt Syntax.w64) Syntax.tnil)))) (List._∷_ (15, Rows.any-gone Syntax.tyBool) List.[])))))))))))))))
+        g3 = List._∷_ (0, Rows.any-gone (Syntax.tyStruct (List._∷_ 114 (List._∷_ 117 (List._∷_ 108 (List._∷_ 101 (List._∷_ 115 (List._∷_ 58 (List._∷_ 58 (List._∷_ 65 (List._∷_ 110 (List._∷_ 115 (List._∷_ 119 (List._∷_ 101 (List._∷_ 114 List.[]))))))))))))) (Syntax.tcons (Syntax.tyEnum (List._∷_ 114 (List._∷_ 117 (List._∷_ 108 (List._∷_ 101 (List._∷_ 115 (List._∷_ 58 (List._∷_ 58 (List._∷_ 79 (List._∷_ 117 (List._∷_ 116 (List._∷_ 99 (List._∷_ 111 (List._∷_ 109 (List._∷_ 101 List.[])))))))))))))) (Syntax.ttcons Syntax.tnil (Syntax.ttcons (Syntax.tcons (Syntax.tyInt Syntax.w16) Syntax.tnil) (Syntax.ttcons (Syntax.tcons (Syntax.tyInt Syntax.w16) Syntax.tnil) Syntax.ttnil)))) (Syntax.tcons (Syntax.tyInt Syntax.w64) (Syntax.tcons (Syntax.tyInt Syntax.w64) Syntax.tnil))))) (List._∷_ (1, Rows.sslice (Referent.rtF (Referent.fInt Syntax.w8)) (Syntax.tyRef (Syntax.named 0) Syntax.imm (Syntax.tyInt Syntax.w8)) 0) (List._∷_ (2, Rows.sc-here (Row.sInt Syntax.w64)) (List._∷_ (3, Rows.sc-here Row.sBool) (List._∷_ (4, Mut.mslice (Referent.rtF (Referent.fInt Syntax.w64)) (Syntax.tyRef (Syntax.named 1) Syntax.mut (Syntax.tyInt Syntax.w64)) 1) (List._∷_ (5, Reshare.mref-owedS Lent.R (Syntax.tyRef (Syntax.named 2) Syntax.mut Lent.refS) 2 3 (Row.lease (κs .1 .1 .0) (qs .1 .1 .0))) (List._∷_ (6, Rows.sc-here Row.sBool) (List._∷_ (7, Rows.any-gone (Syntax.tyStruct (List._∷_ 112 (List._∷_ 111 (List._∷_ 115 (List._∷_ 105 (List._∷_ 116 (List._∷_ 105 (List._∷_ 111 (List._∷_ 110 (List._∷_ 58 (List._∷_ 58 (List._∷_ 80 (List._∷_ 111 (List._∷_ 115 (List._∷_ 105 (List._∷_ 116 (List._∷_ 105 (List._∷_ 111 (List._∷_ 110 (List._∷_ 83 (List._∷_ 121 (List._∷_ 110 (List._∷_ 116 (List._∷_ 97 (List._∷_ 120 List.[])))))))))))))))))))))))) (Syntax.tcons Syntax.tyBool (Syntax.tcons Syntax.tyBool (Syntax.tcons (Syntax.tyInt Syntax.w64) (Syntax.tcons (Syntax.tyInt Syntax.w64) (Syntax.tcons (Syntax.tyInt Syntax.w64) (Syntax.tcons Syntax.tyBool Syntax.tnil)))))))) (List._∷_ (8, Rows.any-gone (Syntax.tyStruct (List._∷_ 112 (List._∷_ 111 (List._∷_ 115 (List._∷_ 105 (List._∷_ 116 (List._∷_ 105 (List._∷_ 111 (List._∷_ 110 (List._∷_ 95 (List._∷_ 97 (List._∷_ 108 (List._∷_ 111 (List._∷_ 110 (List._∷_ 101 (List._∷_ 58 (List._∷_ 58 (List._∷_ 80 (List._∷_ 111 (List._∷_ 115 (List._∷_ 105 (List._∷_ 116 (List._∷_ 105 (List._∷_ 111 (List._∷_ 110 (List._∷_ 65 (List._∷_ 110 (List._∷_ 115 (List._∷_ 119 (List._∷_ 101 (List._∷_ 114 List.[])))))))))))))))))))))))))))))) (Syntax.tcons (Syntax.tyStruct (List._∷_ 114 (List._∷_ 117 (List._∷_ 108 (List._∷_ 101 (List._∷_ 115 (List._∷_ 58 (List._∷_ 58 (List._∷_ 65 (List._∷_ 110 (List._∷_ 115 (List._∷_ 119 (List._∷_ 101 (List._∷_ 114 List.[]))))))))))))) (Syntax.tcons (Syntax.tyEnum (List._∷_ 114 (List._∷_ 117 (List._∷_ 108 (List._∷_ 101 (List._∷_ 115 (List._∷_ 58 (List._∷_ 58 (List._∷_ 79 (List._∷_ 117 (List._∷_ 116 (List._∷_ 99 (List._∷_ 111 (List._∷_ 109 (List._∷_ 101 List.[])))))))))))))) (Syntax.ttcons Syntax.tnil (Syntax.ttcons (Syntax.tcons (Syntax.tyInt Syntax.w16) Syntax.tnil) (Syntax.ttcons (Syntax.tcons (Syntax.tyInt Syntax.w16) Syntax.tnil) Syntax.ttnil)))) (Syntax.tcons (Syntax.tyInt Syntax.w64) (Syntax.tcons (Syntax.tyInt Syntax.w64) Syntax.tnil)))) (Syntax.tcons (Syntax.tyStruct (List._∷_ 112 (List._∷_ 111 (List._∷_ 115 (List._∷_ 105 (List._∷_ 116 (List._∷_ 105 (List._∷_ 111 (List._∷_ 110 (List._∷_ 58 (List._∷_ 58 (List._∷_ 80 (List._∷_ 111 (List._∷_ 115 (List._∷_ 105 (List._∷_ 116 (List._∷_ 105 (List._∷_ 111 (List._∷_ 110 (List._∷_ 83 (List._∷_ 121 (List._∷_ 110 (List._∷_ 116 (List._∷_ 97 (List._∷_ 120 List.[])))))))))))))))))))))))) (Syntax.tcons Syntax.tyBool (Syntax.tcons Syntax.tyBool (Syntax.tcons (Syntax.tyInt Syntax.w64) (Syntax.tcons (Syntax.tyInt Syntax.w64) (Syntax.tcons (Syntax.tyInt Syntax.w64) (Syntax.tcons Syntax.tyBool Syntax.tnil))))))) Syntax.tnil)))) (List._∷_ (9, Rows.any-gone (Syntax.tyStruct (List._∷_ 114 (List._∷_ 117 (List._∷_ 108 (List._∷_ 101 (List._∷_ 115 (List._∷_ 58 (List._∷_ 58 (List._∷_ 65 (List._∷_ 110 (List._∷_ 115 (List._∷_ 119 (List._∷_ 101 (List._∷_ 114 List.[]))))))))))))) (Syntax.tcons (Syntax.tyEnum (List._∷_ 114 (List._∷_ 117 (List._∷_ 108 (List._∷_ 101 (List._∷_ 115 (List._∷_ 58 (List._∷_ 58 (List._∷_ 79 (List._∷_ 117 (List._∷_ 116 (List._∷_ 99 (List._∷_ 111 (List._∷_ 109 (List._∷_ 101 List.[])))))))))))))) (Syntax.ttcons Syntax.tnil (Syntax.ttcons (Syntax.tcons (Syntax.tyInt Syntax.w16) Syntax.tnil) (Syntax.ttcons (Syntax.tcons (Syntax.tyInt Syntax.w16) Syntax.tnil) Syntax.ttnil)))) (Syntax.tcons (Syntax.tyInt Syntax.w64) (Syntax.tcons (Syntax.tyInt Syntax.w64) Syntax.tnil))))) (List._∷_ (10, Rows.any-gone (Syntax.tyEnum (List._∷_ 114 (List._∷_ 117 (List._∷_ 108 (List._∷_ 101 (List._∷_ 115 (List._∷_ 58 (List._∷_ 58 (List._∷_ 79 (List._∷_ 117 (List._∷_ 116 (List._∷_ 99 (List._∷_ 111 (List._∷_ 109 (List._∷_ 101 List.[])))))))))))))) (Syntax.ttcons Syntax.tnil (Syntax.ttcons (Syntax.tcons (Syntax.tyInt Syntax.w16) Syntax.tnil) (Syntax.ttcons (Syntax.tcons (Syntax.tyInt Syntax.w16) Syntax.tnil) Syntax.ttnil))))) (List._∷_ (11, Rows.any-gone (Syntax.tyStruct (List._∷_ 112 (List._∷_ 111 (List._∷_ 115 (List._∷_ 105 (List._∷_ 116 (List._∷_ 105 (List._∷_ 111 (List._∷_ 110 (List._∷_ 58 (List._∷_ 58 (List._∷_ 80 (List._∷_ 111 (List._∷_ 115 (List._∷_ 105 (List._∷_ 116 (List._∷_ 105 (List._∷_ 111 (List._∷_ 110 (List._∷_ 83 (List._∷_ 121 (List._∷_ 110 (List._∷_ 116 (List._∷_ 97 (List._∷_ 120 List.[])))))))))))))))))))))))) (Syntax.tcons Syntax.tyBool (Syntax.tcons Syntax.tyBool (Syntax.tcons (Syntax.tyInt Syntax.w64) (Syntax.tcons (Syntax.tyInt Syntax.w64) (Syntax.tcons (Syntax.tyInt Syntax.w64) (Syntax.tcons Syntax.tyBool Syntax.tnil)))))))) (List._∷_ (12, Rows.sref Lent.R (Syntax.tyRef Syntax.erased Syntax.imm Lent.refS) 3) (List._∷_ (13, Rows.any-gone (Syntax.tyRef Syntax.erased Syntax.mut (Syntax.tyInt Syntax.w64))) (List._∷_ (14, Rows.any-gone (Syntax.tyStruct (List._∷_ 38 (List._∷_ 91 (List._∷_ 93 List.[]))) (Syntax.tcons (Syntax.tyRef Syntax.erased Syntax.mut (Syntax.tyInt Syntax.w64)) (Syntax.tcons (Syntax.tyInt Syntax.w64) Syntax.tnil)))) (List._∷_ (15, Rows.any-gone Syntax.tyBool) List.[])))))))))))))))
 
         abbrev g4 : List.List Row.Entry
-        g4 = List._∷_ (0, Rows.any-gone (Syntax.tyStruct (List._∷_ 114 (List._∷_ 117 (List._∷_ 108 (List._∷_ 101 (List._∷_ 115 (List._∷_ 58 (List._∷_ 58 (List._∷_ 65 (List._∷_ 110 (List._∷_ 115 (List._∷_ 119 (List._∷_ 101 (List._∷_ 114 List.[]))))))))))))) (Syntax.tcons (Syntax.tyEnum (List._∷_ 114 (List._∷_ 117 (List._∷_ 108 (List._∷_ 101 (List._∷_ 115 (List._∷_ 58 (List._∷_ 58 (List._∷_ 79 (List._∷_ 117 (List._∷_ 116 (List._∷_ 99 (List._∷_ 111 (List._∷_ 109 (List._∷_ 101 List.[])))))))))))))) (Syntax.ttcons Syntax.tnil (Syntax.ttcons (Syntax.tcons (Syntax.tyInt Syntax.w16) Syntax.tnil) (Syntax.ttcons (Syntax.tcons (Syntax.tyInt Syntax.w16) Syntax.tnil) Syntax.ttnil)))) (Syntax.tcons (Syntax.tyInt Syntax.w64) (Syntax.tcons (Syntax.tyInt Syntax.w64) Syntax.tnil))))) (List._∷_ (1, Rows.sslice (Referent.rtF (Referent.fInt Syntax.w8)) (Syntax.tyRef (Syntax.named 0) Syntax.imm (Syntax.tyInt Syntax.w8)) 0) (List._∷_ (2, Rows.sc-here (Row.sInt Syntax.w64)) (List._∷_ (3, Rows.sc-here Row.sBool) (List._∷_ (4, Mut.mslice (Referent.rtF (Referent.fInt Syntax.w64)) (Syntax.tyRef (Syntax.named 1) Syntax.mut (Syntax.tyInt Syntax.w64)) 1) (List._∷_ (5, Reshare.mref-owedS Lent.R (Syntax.tyRef (Syntax.named 2) Syntax.mut Lent.refS) 2 3 (Row.lease (κs .1 .1 .0) (qs .1 .1 .0))) (List._∷_ (6, Rows.sc-here Row.sBool) (List._∷_ (7, Rows.whole (Declared'.row PositionSyntax.the-type)) (List._∷_ (8, Rows.any-gone (Syntax.tyStruct (List._∷_ 112 (List._∷_ 111 (List._∷_ 115 (List._∷_ 105 (List._∷_ 116 (List._∷_ 105 (List._∷_ 111 (List._∷_ 110 (List._∷_ 58 (List._∷_ 58 (List._∷_ 80 (List._∷_ 111 (List._∷_ 115 (List._∷_ 105 (List._∷_ 116 (List._∷_ 105 (List._∷_ 111 (List._∷_ 110 (List._∷_ 65 (List._∷_ 110 (List._∷_ 115 (List._∷_ 119 (List._∷_ 101 (List._∷_ 114 List.[])))))))))))))))))))))))) (Syntax.tcons (Syntax.tyStruct (List._∷_ 114 (List._∷_ 117 (List._∷_ 108 (List._∷_ 101 (List._∷_ 115 (List._∷_ 58 (List._∷_ 58 (List._∷_ 65 (List._∷_ 110 (List._∷_ 115 (List._∷_ 119 (List._∷_ 101 (List._∷_ 114 List.[]))))))))))))) (Syntax.tcons (Syntax.tyEnum (List._∷_ 114 (List._∷_ 117 (List._∷_ 108 (List._∷_ 101 (List._∷_ 115 (List._∷_ 58 (List._∷_ 58 (List._∷_ 79 (List._∷_ 117 (List._∷_ 116 (List._∷_ 99 (List._∷_ 111 (List._∷_ 109 (List._∷_ 101 List.[])))))))))))))) (Syntax.ttcons Syntax.tnil (Syntax.ttcons (Syntax.tcons (Syntax.tyInt Syntax.w16) Syntax.tnil) (Syntax.ttcons (Syntax.tcons (Syntax.tyInt Syntax.w16) Syntax.tnil) Syntax.ttnil)))) (Syntax.tcons (Syntax.tyInt Syntax.w64) (Syntax.tcons (Syntax.tyInt Syntax.w64) Syntax.tnil)))) (Syntax.tcons (Syntax.tyStruct (List._∷_ 112 (List._∷_ 111 (List._∷_ 115 (List._∷_ 105 (List._∷_ 116 (List._∷_ 105 (List._∷_ 111 (List._∷_ 110 (List._∷_ 58 (List._∷_ 58 (List._∷_ 80 (List._∷_ 111 (List._∷_ 115 (List._∷_ 105 (List._∷_ 116 (List._∷_ 105 (List._∷_ 111 (List._∷_ 110 (List._∷_ 83 (List._∷_ 121 (List._∷_ 110 (List._∷_ 116 (List._∷_ 97 (List._∷_ 120 List.[])))))))))))))))))))))))) (Syntax.tcons Syntax.tyBool (Syntax.tcons Syntax.tyBool (Syntax.tcons (Syntax.tyInt Syntax.w64) (Syntax.tcons (Syntax.tyInt Syntax.w64) (Syntax.tcons (Syntax.tyInt Syntax.w64) (Syntax.tcons Syntax.tyBool Syntax.tnil))))))) Syntax.tnil)))) (List._∷_ (9, Rows.any-gone (Syntax.tyStruct (List._∷_ 114 (List._∷_ 117 (List._∷_ 108 (List._∷_ 101 (List._∷_ 115 (List._∷_ 58 (List._∷_ 58 (List._∷_ 65 (List._∷_ 110 (List._∷_ 115 (List._∷_ 119 (List._∷_ 101 (List._∷_ 114 List.[]))))))))))))) (Syntax.tcons (Syntax.tyEnum (List._∷_ 114 (List._∷_ 117 (List._∷_ 108 (List._∷_ 101 (List._∷_ 115 (List._∷_ 58 (List._∷_ 58 (List._∷_ 79 (List._∷_ 117 (List._∷_ 116 (List._∷_ 99 (List._∷_ 111 (List._∷_ 109 (List._∷_ 101 List.[])))))))))))))) (Syntax.ttcons Syntax.tnil (Syntax.ttcons (Syntax.tcons (Syntax.tyInt Syntax.w16) Syntax.tnil) (Syntax.ttcons (Syntax.tcons (Syntax.tyInt Syntax.w16) Syntax.tnil) Syntax.ttnil)))) (Syntax.tcons (Syntax.tyInt Syntax.w64) (Syntax.tcons (Syntax.tyInt Syntax.w64) Syntax.tnil))))) (List._∷_ (10, Rows.any-gone (Syntax.tyEnum (List._∷_ 114 (List._∷_ 117 (List._∷_ 108 (List._∷_ 101 (List._∷_ 115 (List._∷_ 58 (List._∷_ 58 (List._∷_ 79 (List._∷_ 117 (List._∷_ 116 (List._∷_ 99 (List._∷_ 111 (List._∷_ 109 (List._∷_ 101 List.[])))))))))))))) (Syntax.ttcons Syntax.tnil (Syntax.ttcons (Syntax.tcons (Syntax.tyInt Syntax.w16) Syntax.tnil) (Syntax.ttcons (Syntax.tcons (Syntax.tyInt Syntax.w16) Syntax.tnil) Syntax.ttnil))))) (List._∷_ (11, Rows.any-gone (Syntax.tyStruct (List._∷_ 112 (List._∷_ 111 (List._∷_ 115 (List._∷_ 105 (List._∷_ 116 (List._∷_ 105 (List._∷_ 111 (List._∷_ 110 (List._∷_ 58 (List._∷_ 58 (List._∷_ 80 (List._∷_ 111 (List._∷_ 115 (List._∷_ 105 (List._∷_ 116 (List._∷_ 105 (List._∷_ 111 (List._∷_ 110 (List._∷_ 83 (List._∷_ 121 (List._∷_ 110 (List._∷_ 116 (List._∷_ 97 (List._∷_ 120 List.[])))))))))))))))))))))))) (Syntax.tcons Syntax.tyBool (Syntax.tcons Syntax.tyBool (Syntax.tcons (Syntax.tyInt Syntax.w64) (Syntax.tcons (Syntax.tyInt Syntax.w64) (Syntax.tcons (Syntax.tyInt Syntax.w64) (Syntax.tcons Syntax.tyBool Syntax.tnil)))))))) (List._∷_ (12, Rows.sref Lent.R (Syntax.tyRef Syntax.erased Syntax.imm Lent.refS) 3) (List._∷_ (13, Rows.any-gone (Syntax.tyRef Syntax.erased Syntax.mut (Syntax.tyInt Syntax.w64))) (List._∷_ (14, Rows.any-gone (Syntax.tyStruct (List._∷_ 38 (List._∷_ 91 (List._∷_ 93 List.[]))) (Syntax.tcons (Syntax.tyRef Syntax.erased Syntax.mut (Syntax.tyInt Syntax.w64)) (Syntax.tcons (Syntax.tyInt Syntax.w64) Syntax.tnil)))) (List._∷_ (15, Rows.any-gone Syntax.tyBool) List.[])))))))))))))))
+        g4 = List._∷_ (0, Rows.any-gone (Syntax.tyStruct (List._∷_ 114 (List._∷_ 117 (List._∷_ 108 (List._∷_ 101 (List._∷_ 115 (List._∷_ 58 (List._∷_ 58 (List._∷_ 65 (List._∷_ 110 (List._∷_ 115 (List._∷_ 119 (List._∷_ 101 (List._∷_ 114 List.[]))))))))))))) (Syntax.tcons (Syntax.tyEnum (List._∷_ 114 (List._∷_ 117 (List._∷_ 108 (List._∷_ 101 (List._∷_ 115 (List._∷_ 58 (List._∷_ 58 (List._∷_ 79 (List._∷_ 117 (List._∷_ 116 (List._∷_ 99 (List._∷_ 111 (List._∷_ 109 (List._∷_ 101 List.[])))))))))))))) (Syntax.ttcons Syntax.tnil (Syntax.ttcons (Syntax.tcons (Syntax.tyInt Syntax.w16) Syntax.tnil) (Syntax.ttcons (Syntax.tcons (Syntax.tyInt Syntax.w16) Syntax.tnil) Syntax.ttnil)))) (Syntax.tcons (Syntax.tyInt Syntax.w64) (Syntax.tcons (Syntax.tyInt Syntax.w64) Syntax.tnil))))) (List._∷_ (1, Rows.sslice (Referent.rtF (Referent.fInt Syntax.w8)) (Syntax.tyRef (Syntax.named 0) Syntax.imm (Syntax.tyInt Syntax.w8)) 0) (List._∷_ (2, Rows.sc-here (Row.sInt Syntax.w64)) (List._∷_ (3, Rows.sc-here Row.sBool) (List._∷_ (4, Mut.mslice (Referent.rtF (Referent.fInt Syntax.w64)) (Syntax.tyRef (Syntax.named 1) Syntax.mut (Syntax.tyInt Syntax.w64)) 1) (List._∷_ (5, Reshare.mref-owedS Lent.R (Syntax.tyRef (Syntax.named 2) Syntax.mut Lent.refS) 2 3 (Row.lease (κs .1 .1 .0) (qs .1 .1 .0))) (List._∷_ (6, Rows.sc-here Row.sBool) (List._∷_ (7, Rows.whole (Declared'.row PositionSyntax.the-type)) (List._∷_ (8, Rows.any-gone (Syntax.tyStruct (List._∷_ 112 (List._∷_ 111 (List._∷_ 115 (List._∷_ 105 (List._∷_ 116 (List._∷_ 105 (List._∷_ 111 (List._∷_ 110 (List._∷_ 95 (List._∷_ 97 (List._∷_ 108 (List._∷_ 111 (List._∷_ 110 (List._∷_ 101 (List._∷_ 58 (List._∷_ 58 (List._∷_ 80 (List._∷_ 111 (List._∷_ 115 (List._∷_ 105 (List._∷_ 116 (List._∷_ 105 (List._∷_ 111 (List._∷_ 110 (List._∷_ 65 (List._∷_ 110 (List._∷_ 115 (List._∷_ 119 (List._∷_ 101 (List._∷_ 114 List.[])))))))))))))))))))))))))))))) (Syntax.tcons (Syntax.tyStruct (List._∷_ 114 (List._∷_ 117 (List._∷_ 108 (List._∷_ 101 (List._∷_ 115 (List._∷_ 58 (List._∷_ 58 (List._∷_ 65 (List._∷_ 110 (List._∷_ 115 (List._∷_ 119 (List._∷_ 101 (List._∷_ 114 List.[]))))))))))))) (Syntax.tcons (Syntax.tyEnum (List._∷_ 114 (List._∷_ 117 (List._∷_ 108 (List._∷_ 101 (List._∷_ 115 (List._∷_ 58 (List._∷_ 58 (List._∷_ 79 (List._∷_ 117 (List._∷_ 116 (List._∷_ 99 (List._∷_ 111 (List._∷_ 109 (List._∷_ 101 List.[])))))))))))))) (Syntax.ttcons Syntax.tnil (Syntax.ttcons (Syntax.tcons (Syntax.tyInt Syntax.w16) Syntax.tnil) (Syntax.ttcons (Syntax.tcons (Syntax.tyInt Syntax.w16) Syntax.tnil) Syntax.ttnil)))) (Syntax.tcons (Syntax.tyInt Syntax.w64) (Syntax.tcons (Syntax.tyInt Syntax.w64) Syntax.tnil)))) (Syntax.tcons (Syntax.tyStruct (List._∷_ 112 (List._∷_ 111 (List._∷_ 115 (List._∷_ 105 (List._∷_ 116 (List._∷_ 105 (List._∷_ 111 (List._∷_ 110 (List._∷_ 58 (List._∷_ 58 (List._∷_ 80 (List._∷_ 111 (List._∷_ 115 (List._∷_ 105 (List._∷_ 116 (List._∷_ 105 (List._∷_ 111 (List._∷_ 110 (List._∷_ 83 (List._∷_ 121 (List._∷_ 110 (List._∷_ 116 (List._∷_ 97 (List._∷_ 120 List.[])))))))))))))))))))))))) (Syntax.tcons Syntax.tyBool (Syntax.tcons Syntax.tyBool (Syntax.tcons (Syntax.tyInt Syntax.w64) (Syntax.tcons (Syntax.tyInt Syntax.w64) (Syntax.tcons (Syntax.tyInt Syntax.w64) (Syntax.tcons Syntax.tyBool Syntax.tnil))))))) Syntax.tnil)))) (List._∷_ (9, Rows.any-gone (Syntax.tyStruct (List._∷_ 114 (List._∷_ 117 (List._∷_ 108 (List._∷_ 101 (List._∷_ 115 (List._∷_ 58 (List._∷_ 58 (List._∷_ 65 (List._∷_ 110 (List._∷_ 115 (List._∷_ 119 (List._∷_ 101 (List._∷_ 114 List.[]))))))))))))) (Syntax.tcons (Syntax.tyEnum (List._∷_ 114 (List._∷_ 117 (List._∷_ 108 (List._∷_ 101 (List._∷_ 115 (List._∷_ 58 (List._∷_ 58 (List._∷_ 79 (List._∷_ 117 (List._∷_ 116 (List._∷_ 99 (List._∷_ 111 (List._∷_ 109 (List._∷_ 101 List.[])))))))))))))) (Syntax.ttcons Syntax.tnil (Syntax.ttcons (Syntax.tcons (Syntax.tyInt Syntax.w16) Syntax.tnil) (Syntax.ttcons (Syntax.tcons (Syntax.tyInt Syntax.w16) Syntax.tnil) Syntax.ttnil)))) (Syntax.tcons (Syntax.tyInt Syntax.w64) (Syntax.tcons (Syntax.tyInt Syntax.w64) Syntax.tnil))))) (List._∷_ (10, Rows.any-gone (Syntax.tyEnum (List._∷_ 114 (List._∷_ 117 (List._∷_ 108 (List._∷_ 101 (List._∷_ 115 (List._∷_ 58 (List._∷_ 58 (List._∷_ 79 (List._∷_ 117 (List._∷_ 116 (List._∷_ 99 (List._∷_ 111 (List._∷_ 109 (List._∷_ 101 List.[])))))))))))))) (Syntax.ttcons Syntax.tnil (Syntax.ttcons (Syntax.tcons (Syntax.tyInt Syntax.w16) Syntax.tnil) (Syntax.ttcons (Syntax.tcons (Syntax.tyInt Syntax.w16) Syntax.tnil) Syntax.ttnil))))) (List._∷_ (11, Rows.any-gone (Syntax.tyStruct (List._∷_ 112 (List._∷_ 111 (List._∷_ 115 (List._∷_ 105 (List._∷_ 116 (List._∷_ 105 (List._∷_ 111 (List._∷_ 110 (List._∷_ 58 (List._∷_ 58 (List._∷_ 80 (List._∷_ 111 (List._∷_ 115 (List._∷_ 105 (List._∷_ 116 (List._∷_ 105 (List._∷_ 111 (List._∷_ 110 (List._∷_ 83 (List._∷_ 121 (List._∷_ 110 (List._∷_ 116 (List._∷_ 97 (List._∷_ 120 List.[])))))))))))))))))))))))) (Syntax.tcons Syntax.tyBool (Syntax.tcons Syntax.tyBool (Syntax.tcons (Syntax.tyInt Syntax.w64) (Syntax.tcons (Syntax.tyInt Syntax.w64) (Syntax.tcons (Syntax.tyInt Syntax.w64) (Syntax.tcons Syntax.tyBool Syntax.tnil)))))))) (List._∷_ (12, Rows.sref Lent.R (Syntax.tyRef Syntax.erased Syntax.imm Lent.refS) 3) (List._∷_ (13, Rows.any-gone (Syntax.tyRef Syntax.erased Syntax.mut (Syntax.tyInt Syntax.w64))) (List._∷_ (14, Rows.any-gone (Syntax.tyStruct (List._∷_ 38 (List._∷_ 91 (List._∷_ 93 List.[]))) (Syntax.tcons (Syntax.tyRef Syntax.erased Syntax.mut (Syntax.tyInt Syntax.w64)) (Syntax.tcons (Syntax.tyInt Syntax.w64) Syntax.tnil)))) (List._∷_ (15, Rows.any-gone Syntax.tyBool) List.[])))))))))))))))
 
         abbrev g5 : List.List Row.Entry
-        g5 = List._∷_ (0, Rows.any-gone (Syntax.tyStruct (List._∷_ 114 (List._∷_ 117 (List._∷_ 108 (List._∷_ 101 (List._∷_ 115 (List._∷_ 58 (List._∷_ 58 (List._∷_ 65 (List._∷_ 110 (List._∷_ 115 (List._∷_ 119 (List._∷_ 101 (List._∷_ 114 List.[]))))))))))))) (Syntax.tcons (Syntax.tyEnum (List._∷_ 114 (List._∷_ 117 (List._∷_ 108 (List._∷_ 101 (List._∷_ 115 (List._∷_ 58 (List._∷_ 58 (List._∷_ 79 (List._∷_ 117 (List._∷_ 116 (List._∷_ 99 (List._∷_ 111 (List._∷_ 109 (List._∷_ 101 List.[])))))))))))))) (Syntax.ttcons Syntax.tnil (Syntax.ttcons (Syntax.tcons (Syntax.tyInt Syntax.w16) Syntax.tnil) (Syntax.ttcons (Syntax.tcons (Syntax.tyInt Syntax.w16) Syntax.tnil) Syntax.ttnil)))) (Syntax.tcons (Syntax.tyInt Syntax.w64) (Syntax.tcons (Syntax.tyInt Syntax.w64) Syntax.tnil))))) (List._∷_ (1, Rows.sslice (Referent.rtF (Referent.fInt Syntax.w8)) (Syntax.tyRef (Syntax.named 0) Syntax.imm (Syntax.tyInt Syntax.w8)) 0) (List._∷_ (2, Rows.sc-here (Row.sInt Syntax.w64)) (List._∷_ (3, Rows.sc-here Row.sBool) (List._∷_ (4, Mut.mslice (Referent.rtF (Referent.fInt Syntax.w64)) (Syntax.tyRef (Syntax.named 1) Syntax.mut (Syntax.tyInt Syntax.w64)) 1) (List._∷_ (5, Reshare.mref-owedS Lent.R (Syntax.tyRef (Syntax.named 2) Syntax.mut Lent.refS) 2 3 (Row.lease (κs .1 .1 .0) (qs .1 .1 .0))) (List._∷_ (6, Rows.sc-here Row.sBool) (List._∷_ (7, Rows.whole (Declared'.row PositionSyntax.the-type)) (List._∷_ (8, Rows.any-gone (Syntax.tyStruct (List._∷_ 112 (List._∷_ 111 (List._∷_ 115 (List._∷_ 105 (List._∷_ 116 (List._∷_ 105 (List._∷_ 111 (List._∷_ 110 (List._∷_ 58 (List._∷_ 58 (List._∷_ 80 (List._∷_ 111 (List._∷_ 115 (List._∷_ 105 (List._∷_ 116 (List._∷_ 105 (List._∷_ 111 (List._∷_ 110 (List._∷_ 65 (List._∷_ 110 (List._∷_ 115 (List._∷_ 119 (List._∷_ 101 (List._∷_ 114 List.[])))))))))))))))))))))))) (Syntax.tcons (Syntax.tyStruct (List._∷_ 114 (List._∷_ 117 (List._∷_ 108 (List._∷_ 101 (List._∷_ 115 (List._∷_ 58 (List._∷_ 58 (List._∷_ 65 (List._∷_ 110 (List._∷_ 115 (List._∷_ 119 (List._∷_ 101 (List._∷_ 114 List.[]))))))))))))) (Syntax.tcons (Syntax.tyEnum (List._∷_ 114 (List._∷_ 117 (List._∷_ 108 (List._∷_ 101 (List._∷_ 115 (List._∷_ 58 (List._∷_ 58 (List._∷_ 79 (List._∷_ 117 (List._∷_ 116 (List._∷_ 99 (List._∷_ 111 (List._∷_ 109 (List._∷_ 101 List.[])))))))))))))) (Syntax.ttcons Syntax.tnil (Syntax.ttcons (Syntax.tcons (Syntax.tyInt Syntax.w16) Syntax.tnil) (Syntax.ttcons (Syntax.tcons (Syntax.tyInt Syntax.w16) Syntax.tnil) Syntax.ttnil)))) (Syntax.tcons (Syntax.tyInt Syntax.w64) (Syntax.tcons (Syntax.tyInt Syntax.w64) Syntax.tnil)))) (Syntax.tcons (Syntax.tyStruct (List._∷_ 112 (List._∷_ 111 (List._∷_ 115 (List._∷_ 105 (List._∷_ 116 (List._∷_ 105 (List._∷_ 111 (List._∷_ 110 (List._∷_ 58 (List._∷_ 58 (List._∷_ 80 (List._∷_ 111 (List._∷_ 115 (List._∷_ 105 (List._∷_ 116 (List._∷_ 105 (List._∷_ 111 (List._∷_ 110 (List._∷_ 83 (List._∷_ 121 (List._∷_ 110 (List._∷_ 116 (List._∷_ 97 (List._∷_ 120 List.[])))))))))))))))))))))))) (Syntax.tcons Syntax.tyBool (Syntax.tcons Syntax.tyBool (Syntax.tcons (Syntax.tyInt Syntax.w64) (Syntax.tcons (Syntax.tyInt Syntax.w64) (Syntax.tcons (Syntax.tyInt Syntax.w64) (Syntax.tcons Syntax.tyBool Syntax.tnil))))))) Syntax.tnil)))) (List._∷_ (9, Rows.any-gone (Syntax.tyStruct (List._∷_ 114 (List._∷_ 117 (List._∷_ 108 (List._∷_ 101 (List._∷_ 115 (List._∷_ 58 (List._∷_ 58 (List._∷_ 65 (List._∷_ 110 (List._∷_ 115 (List._∷_ 119 (List._∷_ 101 (List._∷_ 114 List.[]))))))))))))) (Syntax.tcons (Syntax.tyEnum (List._∷_ 114 (List._∷_ 117 (List._∷_ 108 (List._∷_ 101 (List._∷_ 115 (List._∷_ 58 (List._∷_ 58 (List._∷_ 79 (List._∷_ 117 (List._∷_ 116 (List._∷_ 99 (List._∷_ 111 (List._∷_ 109 (List._∷_ 101 List.[])))))))))))))) (Syntax.ttcons Syntax.tnil (Syntax.ttcons (Syntax.tcons (Syntax.tyInt Syntax.w16) Syntax.tnil) (Syntax.ttcons (Syntax.tcons (Syntax.tyInt Syntax.w16) Syntax.tnil) Syntax.ttnil)))) (Syntax.tcons (Syntax.tyInt Syntax.w64) (Syntax.tcons (Syntax.tyInt Syntax.w64) Syntax.tnil))))) (List._∷_ (10, Rows.any-gone (Syntax.tyEnum (List._∷_ 114 (List._∷_ 117 (List._∷_ 108 (List._∷_ 101 (List._∷_ 115 (List._∷_ 58 (List._∷_ 58 (List._∷_ 79 (List._∷_ 117 (List._∷_ 116 (List._∷_ 99 (List._∷_ 111 (List._∷_ 109 (List._∷_ 101 List.[])))))))))))))) (Syntax.ttcons Syntax.tnil (Syntax.ttcons (Syntax.tcons (Syntax.tyInt Syntax.w16) Syntax.tnil) (Syntax.ttcons (Syntax.tcons (Syntax.tyInt Syntax.w16) Syntax.tnil) Syntax.ttnil))))) (List._∷_ (11, Rows.any-gone (Syntax.tyStruct (List._∷_ 112 (List._∷_ 111 (List._∷_ 115 (List._∷_ 105 (List._∷_ 116 (List._∷_ 105 (List._∷_ 111 (List._∷_ 110 (List._∷_ 58 (List._∷_ 58 (List._∷_ 80 (List._∷_ 111 (List._∷_ 115 (List._∷_ 105 (List._∷_ 116 (List._∷_ 105 (List._∷_ 111 (List._∷_ 110 (List._∷_ 83 (List._∷_ 121 (List._∷_ 110 (List._∷_ 116 (List._∷_ 97 (List._∷_ 120 List.[])))))))))))))))))))))))) (Syntax.tcons Syntax.tyBool (Syntax.tcons Syntax.tyBool (Syntax.tcons (Syntax.tyInt Syntax.w64) (Syntax.tcons (Syntax.tyInt Syntax.w64) (Syntax.tcons (Syntax.tyInt Syntax.w64) (Syntax.tcons Syntax.tyBool Syntax.tnil)))))))) (List._∷_ (12, Rows.any-gone (Syntax.tyRef Syntax.erased Syntax.imm Lent.refS)) (List._∷_ (13, Rows.any-gone (Syntax.tyRef Syntax.erased Syntax.mut (Syntax.tyInt Syntax.w64))) (List._∷_ (14, Rows.any-gone (Syntax.tyStruct (List._∷_ 38 (List._∷_ 91 (List._∷_ 93 List.[]))) (Syntax.tcons (Syntax.tyRef Syntax.erased Syntax.mut (Syntax.tyInt Syntax.w64)) (Syntax.tcons (Syntax.tyInt Syntax.w64) Syntax.tnil)))) (List._∷_ (15, Rows.any-gone Syntax.tyBool) List.[])))))))))))))))
+        g5 = List._∷_ (0, Rows.any-gone (Syntax.tyStruct (List._∷_ 114 (List._∷_ 117 (List._∷_ 108 (List._∷_ 101 (List._∷_ 115 (List._∷_ 58 (List._∷_ 58 (List._∷_ 65 (List._∷_ 110 (List._∷_ 115 (List._∷_ 119 (List._∷_ 101 (List._∷_ 114 List.[]))))))))))))) (Syntax.tcons (Syntax.tyEnum (List._∷_ 114 (List._∷_ 117 (List._∷_ 108 (List._∷_ 101 (List._∷_ 115 (List._∷_ 58 (List._∷_ 58 (List._∷_ 79 (List._∷_ 117 (List._∷_ 116 (List._∷_ 99 (List._∷_ 111 (List._∷_ 109 (List._∷_ 101 List.[])))))))))))))) (Syntax.ttcons Syntax.tnil (Syntax.ttcons (Syntax.tcons (Syntax.tyInt Syntax.w16) Syntax.tnil) (Syntax.ttcons (Syntax.tcons (Syntax.tyInt Syntax.w16) Syntax.tnil) Syntax.ttnil)))) (Syntax.tcons (Syntax.tyInt Syntax.w64) (Syntax.tcons (Syntax.tyInt Syntax.w64) Syntax.tnil))))) (List._∷_ (1, Rows.sslice (Referent.rtF (Referent.fInt Syntax.w8)) (Syntax.tyRef (Syntax.named 0) Syntax.imm (Syntax.tyInt Syntax.w8)) 0) (List._∷_ (2, Rows.sc-here (Row.sInt Syntax.w64)) (List._∷_ (3, Rows.sc-here Row.sBool) (List._∷_ (4, Mut.mslice (Referent.rtF (Referent.fInt Syntax.w64)) (Syntax.tyRef (Syntax.named 1) Syntax.mut (Syntax.tyInt Syntax.w64)) 1) (List._∷_ (5, Reshare.mref-owedS Lent.R (Syntax.tyRef (Syntax.named 2) Syntax.mut Lent.refS) 2 3 (Row.lease (κs .1 .1 .0) (qs .1 .1 .0))) (List._∷_ (6, Rows.sc-here Row.sBool) (List._∷_ (7, Rows.whole (Declared'.row PositionSyntax.the-type)) (List._∷_ (8, Rows.any-gone (Syntax.tyStruct (List._∷_ 112 (List._∷_ 111 (List._∷_ 115 (List._∷_ 105 (List._∷_ 116 (List._∷_ 105 (List._∷_ 111 (List._∷_ 110 (List._∷_ 95 (List._∷_ 97 (List._∷_ 108 (List._∷_ 111 (List._∷_ 110 (List._∷_ 101 (List._∷_ 58 (List._∷_ 58 (List._∷_ 80 (List._∷_ 111 (List._∷_ 115 (List._∷_ 105 (List._∷_ 116 (List._∷_ 105 (List._∷_ 111 (List._∷_ 110 (List._∷_ 65 (List._∷_ 110 (List._∷_ 115 (List._∷_ 119 (List._∷_ 101 (List._∷_ 114 List.[])))))))))))))))))))))))))))))) (Syntax.tcons (Syntax.tyStruct (List._∷_ 114 (List._∷_ 117 (List._∷_ 108 (List._∷_ 101 (List._∷_ 115 (List._∷_ 58 (List._∷_ 58 (List._∷_ 65 (List._∷_ 110 (List._∷_ 115 (List._∷_ 119 (List._∷_ 101 (List._∷_ 114 List.[]))))))))))))) (Syntax.tcons (Syntax.tyEnum (List._∷_ 114 (List._∷_ 117 (List._∷_ 108 (List._∷_ 101 (List._∷_ 115 (List._∷_ 58 (List._∷_ 58 (List._∷_ 79 (List._∷_ 117 (List._∷_ 116 (List._∷_ 99 (List._∷_ 111 (List._∷_ 109 (List._∷_ 101 List.[])))))))))))))) (Syntax.ttcons Syntax.tnil (Syntax.ttcons (Syntax.tcons (Syntax.tyInt Syntax.w16) Syntax.tnil) (Syntax.ttcons (Syntax.tcons (Syntax.tyInt Syntax.w16) Syntax.tnil) Syntax.ttnil)))) (Syntax.tcons (Syntax.tyInt Syntax.w64) (Syntax.tcons (Syntax.tyInt Syntax.w64) Syntax.tnil)))) (Syntax.tcons (Syntax.tyStruct (List._∷_ 112 (List._∷_ 111 (List._∷_ 115 (List._∷_ 105 (List._∷_ 116 (List._∷_ 105 (List._∷_ 111 (List._∷_ 110 (List._∷_ 58 (List._∷_ 58 (List._∷_ 80 (List._∷_ 111 (List._∷_ 115 (List._∷_ 105 (List._∷_ 116 (List._∷_ 105 (List._∷_ 111 (List._∷_ 110 (List._∷_ 83 (List._∷_ 121 (List._∷_ 110 (List._∷_ 116 (List._∷_ 97 (List._∷_ 120 List.[])))))))))))))))))))))))) (Syntax.tcons Syntax.tyBool (Syntax.tcons Syntax.tyBool (Syntax.tcons (Syntax.tyInt Syntax.w64) (Syntax.tcons (Syntax.tyInt Syntax.w64) (Syntax.tcons (Syntax.tyInt Syntax.w64) (Syntax.tcons Syntax.tyBool Syntax.tnil))))))) Syntax.tnil)))) (List._∷_ (9, Rows.any-gone (Syntax.tyStruct (List._∷_ 114 (List._∷_ 117 (List._∷_ 108 (List._∷_ 101 (List._∷_ 115 (List._∷_ 58 (List._∷_ 58 (List._∷_ 65 (List._∷_ 110 (List._∷_ 115 (List._∷_ 119 (List._∷_ 101 (List._∷_ 114 List.[]))))))))))))) (Syntax.tcons (Syntax.tyEnum (List._∷_ 114 (List._∷_ 117 (List._∷_ 108 (List._∷_ 101 (List._∷_ 115 (List._∷_ 58 (List._∷_ 58 (List._∷_ 79 (List._∷_ 117 (List._∷_ 116 (List._∷_ 99 (List._∷_ 111 (List._∷_ 109 (List._∷_ 101 List.[])))))))))))))) (Syntax.ttcons Syntax.tnil (Syntax.ttcons (Syntax.tcons (Syntax.tyInt Syntax.w16) Syntax.tnil) (Syntax.ttcons (Syntax.tcons (Syntax.tyInt Syntax.w16) Syntax.tnil) Syntax.ttnil)))) (Syntax.tcons (Syntax.tyInt Syntax.w64) (Syntax.tcons (Syntax.tyInt Syntax.w64) Syntax.tnil))))) (List._∷_ (10, Rows.any-gone (Syntax.tyEnum (List._∷_ 114 (List._∷_ 117 (List._∷_ 108 (List._∷_ 101 (List._∷_ 115 (List._∷_ 58 (List._∷_ 58 (List._∷_ 79 (List._∷_ 117 (List._∷_ 116 (List._∷_ 99 (List._∷_ 111 (List._∷_ 109 (List._∷_ 101 List.[])))))))))))))) (Syntax.ttcons Syntax.tnil (Syntax.ttcons (Syntax.tcons (Syntax.tyInt Syntax.w16) Syntax.tnil) (Syntax.ttcons (Syntax.tcons (Syntax.tyInt Syntax.w16) Syntax.tnil) Syntax.ttnil))))) (List._∷_ (11, Rows.any-gone (Syntax.tyStruct (List._∷_ 112 (List._∷_ 111 (List._∷_ 115 (List._∷_ 105 (List._∷_ 116 (List._∷_ 105 (List._∷_ 111 (List._∷_ 110 (List._∷_ 58 (List._∷_ 58 (List._∷_ 80 (List._∷_ 111 (List._∷_ 115 (List._∷_ 105 (List._∷_ 116 (List._∷_ 105 (List._∷_ 111 (List._∷_ 110 (List._∷_ 83 (List._∷_ 121 (List._∷_ 110 (List._∷_ 116 (List._∷_ 97 (List._∷_ 120 List.[])))))))))))))))))))))))) (Syntax.tcons Syntax.tyBool (Syntax.tcons Syntax.tyBool (Syntax.tcons (Syntax.tyInt Syntax.w64) (Syntax.tcons (Syntax.tyInt Syntax.w64) (Syntax.tcons (Syntax.tyInt Syntax.w64) (Syntax.tcons Syntax.tyBool Syntax.tnil)))))))) (List._∷_ (12, Rows.any-gone (Syntax.tyRef Syntax.erased Syntax.imm Lent.refS)) (List._∷_ (13, Rows.any-gone (Syntax.tyRef Syntax.erased Syntax.mut (Syntax.tyInt Syntax.w64))) (List._∷_ (14, Rows.any-gone (Syntax.tyStruct (List._∷_ 38 (List._∷_ 91 (List._∷_ 93 List.[]))) (Syntax.tcons (Syntax.tyRef Syntax.erased Syntax.mut (Syntax.tyInt Syntax.w64)) (Syntax.tcons (Syntax.tyInt Syntax.w64) Syntax.tnil)))) (List._∷_ (15, Rows.any-gone Syntax.tyBool) List.[])))))))))))))))
 
         abbrev g7 : List.List Row.Entry
-        g7 = List._∷_ (0, Rows.any-gone (Syntax.tyStruct (List._∷_ 114 (List._∷_ 117 (List._∷_ 108 (List._∷_ 101 (List._∷_ 115 (List._∷_ 58 (List._∷_ 58 (List._∷_ 65 (List._∷_ 110 (List._∷_ 115 (List._∷_ 119 (List._∷_ 101 (List._∷_ 114 List.[]))))))))))))) (Syntax.tcons (Syntax.tyEnum (List._∷_ 114 (List._∷_ 117 (List._∷_ 108 (List._∷_ 101 (List._∷_ 115 (List._∷_ 58 (List._∷_ 58 (List._∷_ 79 (List._∷_ 117 (List._∷_ 116 (List._∷_ 99 (List._∷_ 111 (List._∷_ 109 (List._∷_ 101 List.[])))))))))))))) (Syntax.ttcons Syntax.tnil (Syntax.ttcons (Syntax.tcons (Syntax.tyInt Syntax.w16) Syntax.tnil) (Syntax.ttcons (Syntax.tcons (Syntax.tyInt Syntax.w16) Syntax.tnil) Syntax.ttnil)))) (Syntax.tcons (Syntax.tyInt Syntax.w64) (Syntax.tcons (Syntax.tyInt Syntax.w64) Syntax.tnil))))) (List._∷_ (1, Rows.sslice (Referent.rtF (Referent.fInt Syntax.w8)) (Syntax.tyRef (Syntax.named 0) Syntax.imm (Syntax.tyInt Syntax.w8)) 0) (List._∷_ (2, Rows.sc-here (Row.sInt Syntax.w64)) (List._∷_ (3, Rows.sc-here Row.sBool) (List._∷_ (4, Relend.mslice-owed (Referent.rtF (Referent.fInt Syntax.w64)) (Syntax.tyRef (Syntax.named 1) Syntax.mut (Syntax.tyInt Syntax.w64)) 1 4 (Row.lease (κs .1 .0) (qs .1 .0))) (List._∷_ (5, Rows.mref Lent.R (Syntax.tyRef (Syntax.named 2) Syntax.mut Lent.refS) 2) (List._∷_ (6, Rows.sc-here Row.sBool) (List._∷_ (7, Rows.whole (Declared'.row PositionSyntax.the-type)) (List._∷_ (8, Rows.any-gone (Syntax.tyStruct (List._∷_ 112 (List._∷_ 111 (List._∷_ 115 (List._∷_ 105 (List._∷_ 116 (List._∷_ 105 (List._∷_ 111 (List._∷_ 110 (List._∷_ 58 (List._∷_ 58 (List._∷_ 80 (List._∷_ 111 (List._∷_ 115 (List._∷_ 105 (List._∷_ 116 (List._∷_ 105 (List._∷_ 111 (List._∷_ 110 (List._∷_ 65 (List._∷_ 110 (List._∷_ 115 (List._∷_ 119 (List._∷_ 101 (List._∷_ 114 List.[])))))))))))))))))))))))) (Syntax.tcons (Syntax.tyStruct (List._∷_ 114 (List._∷_ 117 (List._∷_ 108 (List._∷_ 101 (List._∷_ 115 (List._∷_ 58 (List._∷_ 58 (List._∷_ 65 (List._∷_ 110 (List._∷_ 115 (List._∷_ 119 (List._∷_ 101 (List._∷_ 114 List.[]))))))))))))) (Syntax.tcons (Syntax.tyEnum (List._∷_ 114 (List._∷_ 117 (List._∷_ 108 (List._∷_ 101 (List._∷_ 115 (List._∷_ 58 (List._∷_ 58 (List._∷_ 79 (List._∷_ 117 (List._∷_ 116 (List._∷_ 99 (List._∷_ 111 (List._∷_ 109 (List._∷_ 101 List.[])))))))))))))) (Syntax.ttcons Syntax.tnil (Syntax.ttcons (Syntax.tcons (Syntax.tyInt Syntax.w16) Syntax.tnil) (Syntax.ttcons (Syntax.tcons (Syntax.tyInt Syntax.w16) Syntax.tnil) Syntax.ttnil)))) (Syntax.tcons (Syntax.tyInt Syntax.w64) (Syntax.tcons (Syntax.tyInt Syntax.w64) Syntax.tnil)))) (Syntax.tcons (Syntax.tyStruct (List._∷_ 112 (List._∷_ 111 (List._∷_ 115 (List._∷_ 105 (List._∷_ 116 (List._∷_ 105 (List._∷_ 111 (List._∷_ 110 (List._∷_ 58 (List._∷_ 58 (List._∷_ 80 (List._∷_ 111 (List._∷_ 115 (List._∷_ 105 (List._∷_ 116 (List._∷_ 105 (List._∷_ 111 (List._∷_ 110 (List._∷_ 83 (List._∷_ 121 (List._∷_ 110 (List._∷_ 116 (List._∷_ 97 (List._∷_ 120 List.[])))))))))))))))))))))))) (Syntax.tcons Syntax.tyBool (Syntax.tcons Syntax.tyBool (Syntax.tcons (Syntax.tyInt Syntax.w64) (Syntax.tcons (Syntax.tyInt Syntax.w64) (Syntax.tcons (Syntax.tyInt Syntax.w64) (Syntax.tcons Syntax.tyBool Syntax.tnil))))))) Syntax.tnil)))) (List._∷_ (9, Rows.any-gone (Syntax.tyStruct (List._∷_ 114 (List._∷_ 117 (List._∷_ 108 (List._∷_ 101 (List._∷_ 115 (List._∷_ 58 (List._∷_ 58 (List._∷_ 65 (List._∷_ 110 (List._∷_ 115 (List._∷_ 119 (List._∷_ 101 (List._∷_ 114 List.[]))))))))))))) (Syntax.tcons (Syntax.tyEnum (List._∷_ 114 (List._∷_ 117 (List._∷_ 108 (List._∷_ 101 (List._∷_ 115 (List._∷_ 58 (List._∷_ 58 (List._∷_ 79 (List._∷_ 117 (List._∷_ 116 (List._∷_ 99 (List._∷_ 111 (List._∷_ 109 (List._∷_ 101 List.[])))))))))))))) (Syntax.ttcons Syntax.tnil (Syntax.ttcons (Syntax.tcons (Syntax.tyInt Syntax.w16) Syntax.tnil) (Syntax.ttcons (Syntax.tcons (Syntax.tyInt Syntax.w16) Syntax.tnil) Syntax.ttnil)))) (Syntax.tcons (Syntax.tyInt Syntax.w64) (Syntax.tcons (Syntax.tyInt Syntax.w64) Syntax.tnil))))) (List._∷_ (10, Rows.any-gone (Syntax.tyEnum (List._∷_ 114 (List._∷_ 117 (List._∷_ 108 (List._∷_ 101 (List._∷_ 115 (List._∷_ 58 (List._∷_ 58 (List._∷_ 79 (List._∷_ 117 (List._∷_ 116 (List._∷_ 99 (List._∷_ 111 (List._∷_ 109 (List._∷_ 101 List.[])))))))))))))) (Syntax.ttcons Syntax.tnil (Syntax.ttcons (Syntax.tcons (Syntax.tyInt Syntax.w16) Syntax.tnil) (Syntax.ttcons (Syntax.tcons (Syntax.tyInt Syntax.w16) Syntax.tnil) Syntax.ttnil))))) (List._∷_ (11, Rows.any-gone (Syntax.tyStruct (List._∷_ 112 (List._∷_ 111 (List._∷_ 115 (List._∷_ 105 (List._∷_ 116 (List._∷_ 105 (List._∷_ 111 (List._∷_ 110 (List._∷_ 58 (List._∷_ 58 (List._∷_ 80 (List._∷_ 111 (List._∷_ 115 (List._∷_ 105 (List._∷_ 116 (List._∷_ 105 (List._∷_ 111 (List._∷_ 110 (List._∷_ 83 (List._∷_ 121 (List._∷_ 110 (List._∷_ 116 (List._∷_ 97 (List._∷_ 120 List.[])))))))))))))))))))))))) (Syntax.tcons Syntax.tyBool (Syntax.tcons Syntax.tyBool (Syntax.tcons (Syntax.tyInt Syntax.w64) (Syntax.tcons (Syntax.tyInt Syntax.w64) (Syntax.tcons (Syntax.tyInt Syntax.w64) (Syntax.tcons Syntax.tyBool Syntax.tnil)))))))) (List._∷_ (12, Rows.any-gone (Syntax.tyRef Syntax.erased Syntax.imm Lent.refS)) (List._∷_ (13, Relend.msptr (Referent.rtF (Referent.fInt Syntax.w64)) (Syntax.tyRef Syntax.erased Syntax.mut (Syntax.tyInt Syntax.w64)) 4) (List._∷_ (14, Rows.any-gone (Syntax.tyStruct (List._∷_ 38 (List._∷_ 91 (List._∷_ 93 List.[]))) (Syntax.tcons (Syntax.tyRef Syntax.erased Syntax.mut (Syntax.tyInt Syntax.w64)) (Syntax.tcons (Syntax.tyInt Syntax.w64) Syntax.tnil)))) (List._∷_ (15, Rows.any-gone Syntax.tyBool) List.[])))))))))))))))
+        g7 = List._∷_ (0, Rows.any-gone (Syntax.tyStruct (List._∷_ 114 (List._∷_ 117 (List._∷_ 108 (List._∷_ 101 (List._∷_ 115 (List._∷_ 58 (List._∷_ 58 (List._∷_ 65 (List._∷_ 110 (List._∷_ 115 (List._∷_ 119 (List._∷_ 101 (List._∷_ 114 List.[]))))))))))))) (Syntax.tcons (Syntax.tyEnum (List._∷_ 114 (List._∷_ 117 (List._∷_ 108 (List._∷_ 101 (List._∷_ 115 (List._∷_ 58 (List._∷_ 58 (List._∷_ 79 (List._∷_ 117 (List._∷_ 116 (List._∷_ 99 (List._∷_ 111 (List._∷_ 109 (List._∷_ 101 List.[])))))))))))))) (Syntax.ttcons Syntax.tnil (Syntax.ttcons (Syntax.tcons (Syntax.tyInt Syntax.w16) Syntax.tnil) (Syntax.ttcons (Syntax.tcons (Syntax.tyInt Syntax.w16) Syntax.tnil) Syntax.ttnil)))) (Syntax.tcons (Syntax.tyInt Syntax.w64) (Syntax.tcons (Syntax.tyInt Syntax.w64) Syntax.tnil))))) (List._∷_ (1, Rows.sslice (Referent.rtF (Referent.fInt Syntax.w8)) (Syntax.tyRef (Syntax.named 0) Syntax.imm (Syntax.tyInt Syntax.w8)) 0) (List._∷_ (2, Rows.sc-here (Row.sInt Syntax.w64)) (List._∷_ (3, Rows.sc-here Row.sBool) (List._∷_ (4, Relend.mslice-owed (Referent.rtF (Referent.fInt Syntax.w64)) (Syntax.tyRef (Syntax.named 1) Syntax.mut (Syntax.tyInt Syntax.w64)) 1 4 (Row.lease (κs .1 .0) (qs .1 .0))) (List._∷_ (5, Rows.mref Lent.R (Syntax.tyRef (Syntax.named 2) Syntax.mut Lent.refS) 2) (List._∷_ (6, Rows.sc-here Row.sBool) (List._∷_ (7, Rows.whole (Declared'.row PositionSyntax.the-type)) (List._∷_ (8, Rows.any-gone (Syntax.tyStruct (List._∷_ 112 (List._∷_ 111 (List._∷_ 115 (List._∷_ 105 (List._∷_ 116 (List._∷_ 105 (List._∷_ 111 (List._∷_ 110 (List._∷_ 95 (List._∷_ 97 (List._∷_ 108 (List._∷_ 111 (List._∷_ 110 (List._∷_ 101 (List._∷_ 58 (List._∷_ 58 (List._∷_ 80 (List._∷_ 111 (List._∷_ 115 (List._∷_ 105 (List._∷_ 116 (List._∷_ 105 (List._∷_ 111 (List._∷_ 110 (List._∷_ 65 (List._∷_ 110 (List._∷_ 115 (List._∷_ 119 (List._∷_ 101 (List._∷_ 114 List.[])))))))))))))))))))))))))))))) (Syntax.tcons (Syntax.tyStruct (List._∷_ 114 (List._∷_ 117 (List._∷_ 108 (List._∷_ 101 (List._∷_ 115 (List._∷_ 58 (List._∷_ 58 (List._∷_ 65 (List._∷_ 110 (List._∷_ 115 (List._∷_ 119 (List._∷_ 101 (List._∷_ 114 List.[]))))))))))))) (Syntax.tcons (Syntax.tyEnum (List._∷_ 114 (List._∷_ 117 (List._∷_ 108 (List._∷_ 101 (List._∷_ 115 (List._∷_ 58 (List._∷_ 58 (List._∷_ 79 (List._∷_ 117 (List._∷_ 116 (List._∷_ 99 (List._∷_ 111 (List._∷_ 109 (List._∷_ 101 List.[])))))))))))))) (Syntax.ttcons Syntax.tnil (Syntax.ttcons (Syntax.tcons (Syntax.tyInt Syntax.w16) Syntax.tnil) (Syntax.ttcons (Syntax.tcons (Syntax.tyInt Syntax.w16) Syntax.tnil) Syntax.ttnil)))) (Syntax.tcons (Syntax.tyInt Syntax.w64) (Syntax.tcons (Syntax.tyInt Syntax.w64) Syntax.tnil)))) (Syntax.tcons (Syntax.tyStruct (List._∷_ 112 (List._∷_ 111 (List._∷_ 115 (List._∷_ 105 (List._∷_ 116 (List._∷_ 105 (List._∷_ 111 (List._∷_ 110 (List._∷_ 58 (List._∷_ 58 (List._∷_ 80 (List._∷_ 111 (List._∷_ 115 (List._∷_ 105 (List._∷_ 116 (List._∷_ 105 (List._∷_ 111 (List._∷_ 110 (List._∷_ 83 (List._∷_ 121 (List._∷_ 110 (List._∷_ 116 (List._∷_ 97 (List._∷_ 120 List.[])))))))))))))))))))))))) (Syntax.tcons Syntax.tyBool (Syntax.tcons Syntax.tyBool (Syntax.tcons (Syntax.tyInt Syntax.w64) (Syntax.tcons (Syntax.tyInt Syntax.w64) (Syntax.tcons (Syntax.tyInt Syntax.w64) (Syntax.tcons Syntax.tyBool Syntax.tnil))))))) Syntax.tnil)))) (List._∷_ (9, Rows.any-gone (Syntax.tyStruct (List._∷_ 114 (List._∷_ 117 (List._∷_ 108 (List._∷_ 101 (List._∷_ 115 (List._∷_ 58 (List._∷_ 58 (List._∷_ 65 (List._∷_ 110 (List._∷_ 115 (List._∷_ 119 (List._∷_ 101 (List._∷_ 114 List.[]))))))))))))) (Syntax.tcons (Syntax.tyEnum (List._∷_ 114 (List._∷_ 117 (List._∷_ 108 (List._∷_ 101 (List._∷_ 115 (List._∷_ 58 (List._∷_ 58 (List._∷_ 79 (List._∷_ 117 (List._∷_ 116 (List._∷_ 99 (List._∷_ 111 (List._∷_ 109 (List._∷_ 101 List.[])))))))))))))) (Syntax.ttcons Syntax.tnil (Syntax.ttcons (Syntax.tcons (Syntax.tyInt Syntax.w16) Syntax.tnil) (Syntax.ttcons (Syntax.tcons (Syntax.tyInt Syntax.w16) Syntax.tnil) Syntax.ttnil)))) (Syntax.tcons (Syntax.tyInt Syntax.w64) (Syntax.tcons (Syntax.tyInt Syntax.w64) Syntax.tnil))))) (List._∷_ (10, Rows.any-gone (Syntax.tyEnum (List._∷_ 114 (List._∷_ 117 (List._∷_ 108 (List._∷_ 101 (List._∷_ 115 (List._∷_ 58 (List._∷_ 58 (List._∷_ 79 (List._∷_ 117 (List._∷_ 116 (List._∷_ 99 (List._∷_ 111 (List._∷_ 109 (List._∷_ 101 List.[])))))))))))))) (Syntax.ttcons Syntax.tnil (Syntax.ttcons (Syntax.tcons (Syntax.tyInt Syntax.w16) Syntax.tnil) (Syntax.ttcons (Syntax.tcons (Syntax.tyInt Syntax.w16) Syntax.tnil) Syntax.ttnil))))) (List._∷_ (11, Rows.any-gone (Syntax.tyStruct (List._∷_ 112 (List._∷_ 111 (List._∷_ 115 (List._∷_ 105 (List._∷_ 116 (List._∷_ 105 (List._∷_ 111 (List._∷_ 110 (List._∷_ 58 (List._∷_ 58 (List._∷_ 80 (List._∷_ 111 (List._∷_ 115 (List._∷_ 105 (List._∷_ 116 (List._∷_ 105 (List._∷_ 111 (List._∷_ 110 (List._∷_ 83 (List._∷_ 121 (List._∷_ 110 (List._∷_ 116 (List._∷_ 97 (List._∷_ 120 List.[])))))))))))))))))))))))) (Syntax.tcons Syntax.tyBool (Syntax.tcons Syntax.tyBool (Syntax.tcons (Syntax.tyInt Syntax.w64) (Syntax.tcons (Syntax.tyInt Syntax.w64) (Syntax.tcons (Syntax.tyInt Syntax.w64) (Syntax.tcons Syntax.tyBool Syntax.tnil)))))))) (List._∷_ (12, Rows.any-gone (Syntax.tyRef Syntax.erased Syntax.imm Lent.refS)) (List._∷_ (13, Relend.msptr (Referent.rtF (Referent.fInt Syntax.w64)) (Syntax.tyRef Syntax.erased Syntax.mut (Syntax.tyInt Syntax.w64)) 4) (List._∷_ (14, Rows.any-gone (Syntax.tyStruct (List._∷_ 38 (List._∷_ 91 (List._∷_ 93 List.[]))) (Syntax.tcons (Syntax.tyRef Syntax.erased Syntax.mut (Syntax.tyInt Syntax.w64)) (Syntax.tcons (Syntax.tyInt Syntax.w64) Syntax.tnil)))) (List._∷_ (15, Rows.any-gone Syntax.tyBool) List.[])))))))))))))))
 
         abbrev g8 : List.List Row.Entry
-        g8 = List._∷_ (0, Rows.any-gone (Syntax.tyStruct (List._∷_ 114 (List._∷_ 117 (List._∷_ 108 (List._∷_ 101 (List._∷_ 115 (List._∷_ 58 (List._∷_ 58 (List._∷_ 65 (List._∷_ 110 (List._∷_ 115 (List._∷_ 119 (List._∷_ 101 (List._∷_ 114 List.[]))))))))))))) (Syntax.tcons (Syntax.tyEnum (List._∷_ 114 (List._∷_ 117 (List._∷_ 108 (List._∷_ 101 (List._∷_ 115 (List._∷_ 58 (List._∷_ 58 (List._∷_ 79 (List._∷_ 117 (List._∷_ 116 (List._∷_ 99 (List._∷_ 111 (List._∷_ 109 (List._∷_ 101 List.[])))))))))))))) (Syntax.ttcons Syntax.tnil (Syntax.ttcons (Syntax.tcons (Syntax.tyInt Syntax.w16) Syntax.tnil) (Syntax.ttcons (Syntax.tcons (Syntax.tyInt Syntax.w16) Syntax.tnil) Syntax.ttnil)))) (Syntax.tcons (Syntax.tyInt Syntax.w64) (Syntax.tcons (Syntax.tyInt Syntax.w64) Syntax.tnil))))) (List._∷_ (1, Rows.sslice (Referent.rtF (Referent.fInt Syntax.w8)) (Syntax.tyRef (Syntax.named 0) Syntax.imm (Syntax.tyInt Syntax.w8)) 0) (List._∷_ (2, Rows.sc-here (Row.sInt Syntax.w64)) (List._∷_ (3, Rows.sc-here Row.sBool) (List._∷_ (4, Relend.mslice-owed (Referent.rtF (Referent.fInt Syntax.w64)) (Syntax.tyRef (Syntax.named 1) Syntax.mut (Syntax.tyInt Syntax.w64)) 1 4 (Row.lease (κs .1 .0) (qs .1 .0))) (List._∷_ (5, Rows.mref Lent.R (Syntax.tyRef (Syntax.named 2) Syntax.mut Lent.refS) 2) (List._∷_ (6, Rows.sc-here Row.sBool) (List._∷_ (7, Rows.whole (Declared'.row PositionSyntax.the-type)) (List._∷_ (8, Rows.any-gone (Syntax.tyStruct (List._∷_ 112 (List._∷_ 111 (List._∷_ 115 (List._∷_ 105 (List._∷_ 116 (List._∷_ 105 (List._∷_ 111 (List._∷_ 110 (List._∷_ 58 (List._∷_ 58 (List._∷_ 80 (List._∷_ 111 (List._∷_ 115 (List._∷_ 105 (List._∷_ 116 (List._∷_ 105 (List._∷_ 111 (List._∷_ 110 (List._∷_ 65 (List._∷_ 110 (List._∷_ 115 (List._∷_ 119 (List._∷_ 101 (List._∷_ 114 List.[])))))))))))))))))))))))) (Syntax.tcons (Syntax.tyStruct (List._∷_ 114 (List._∷_ 117 (List._∷_ 108 (List._∷_ 101 (List._∷_ 115 (List._∷_ 58 (List._∷_ 58 (List._∷_ 65 (List._∷_ 110 (List._∷_ 115 (List._∷_ 119 (List._∷_ 101 (List._∷_ 114 List.[]))))))))))))) (Syntax.tcons (Syntax.tyEnum (List._∷_ 114 (List._∷_ 117 (List._∷_ 108 (List._∷_ 101 (List._∷_ 115 (List._∷_ 58 (List._∷_ 58 (List._∷_ 79 (List._∷_ 117 (List._∷_ 116 (List._∷_ 99 (List._∷_ 111 (List._∷_ 109 (List._∷_ 101 List.[])))))))))))))) (Syntax.ttcons Syntax.tnil (Syntax.ttcons (Syntax.tcons (Syntax.tyInt Syntax.w16) Syntax.tnil) (Syntax.ttcons (Syntax.tcons (Syntax.tyInt Syntax.w16) Syntax.tnil) Syntax.ttnil)))) (Syntax.tcons (Syntax.tyInt Syntax.w64) (Syntax.tcons (Syntax.tyInt Syntax.w64) Syntax.tnil)))) (Syntax.tcons (Syntax.tyStruct (List._∷_ 112 (List._∷_ 111 (List._∷_ 115 (List._∷_ 105 (List._∷_ 116 (List._∷_ 105 (List._∷_ 111 (List._∷_ 110 (List._∷_ 58 (List._∷_ 58 (List._∷_ 80 (List._∷_ 111 (List._∷_ 115 (List._∷_ 105 (List._∷_ 116 (List._∷_ 105 (List._∷_ 111 (List._∷_ 110 (List._∷_ 83 (List._∷_ 121 (List._∷_ 110 (List._∷_ 116 (List._∷_ 97 (List._∷_ 120 List.[])))))))))))))))))))))))) (Syntax.tcons Syntax.tyBool (Syntax.tcons Syntax.tyBool (Syntax.tcons (Syntax.tyInt Syntax.w64) (Syntax.tcons (Syntax.tyInt Syntax.w64) (Syntax.tcons (Syntax.tyInt Syntax.w64) (Syntax.tcons Syntax.tyBool Syntax.tnil))))))) Syntax.tnil)))) (List._∷_ (9, Rows.any-gone (Syntax.tyStruct (List._∷_ 114 (List._∷_ 117 (List._∷_ 108 (List._∷_ 101 (List._∷_ 115 (List._∷_ 58 (List._∷_ 58 (List._∷_ 65 (List._∷_ 110 (List._∷_ 115 (List._∷_ 119 (List._∷_ 101 (List._∷_ 114 List.[]))))))))))))) (Syntax.tcons (Syntax.tyEnum (List._∷_ 114 (List._∷_ 117 (List._∷_ 108 (List._∷_ 101 (List._∷_ 115 (List._∷_ 58 (List._∷_ 58 (List._∷_ 79 (List._∷_ 117 (List._∷_ 116 (List._∷_ 99 (List._∷_ 111 (List._∷_ 109 (List._∷_ 101 List.[])))))))))))))) (Syntax.ttcons Syntax.tnil (Syntax.ttcons (Syntax.tcons (Syntax.tyInt Syntax.w16) Syntax.tnil) (Syntax.ttcons (Syntax.tcons (Syntax.tyInt Syntax.w16) Syntax.tnil) Syntax.ttnil)))) (Syntax.tcons (Syntax.tyInt Syntax.w64) (Syntax.tcons (Syntax.tyInt Syntax.w64) Syntax.tnil))))) (List._∷_ (10, Rows.any-gone (Syntax.tyEnum (List._∷_ 114 (List._∷_ 117 (List._∷_ 108 (List._∷_ 101 (List._∷_ 115 (List._∷_ 58 (List._∷_ 58 (List._∷_ 79 (List._∷_ 117 (List._∷_ 116 (List._∷_ 99 (List._∷_ 111 (List._∷_ 109 (List._∷_ 101 List.[])))))))))))))) (Syntax.ttcons Syntax.tnil (Syntax.ttcons (Syntax.tcons (Syntax.tyInt Syntax.w16) Syntax.tnil) (Syntax.ttcons (Syntax.tcons (Syntax.tyInt Syntax.w16) Syntax.tnil) Syntax.ttnil))))) (List._∷_ (11, Rows.any-gone (Syntax.tyStruct (List._∷_ 112 (List._∷_ 111 (List._∷_ 115 (List._∷_ 105 (List._∷_ 116 (List._∷_ 105 (List._∷_ 111 (List._∷_ 110 (List._∷_ 58 (List._∷_ 58 (List._∷_ 80 (List._∷_ 111 (List._∷_ 115 (List._∷_ 105 (List._∷_ 116 (List._∷_ 105 (List._∷_ 111 (List._∷_ 110 (List._∷_ 83 (List._∷_ 121 (List._∷_ 110 (List._∷_ 116 (List._∷_ 97 (List._∷_ 120 List.[])))))))))))))))))))))))) (Syntax.tcons Syntax.tyBool (Syntax.tcons Syntax.tyBool (Syntax.tcons (Syntax.tyInt Syntax.w64) (Syntax.tcons (Syntax.tyInt Syntax.w64) (Syntax.tcons (Syntax.tyInt Syntax.w64) (Syntax.tcons Syntax.tyBool Syntax.tnil)))))))) (List._∷_ (12, Rows.any-gone (Syntax.tyRef Syntax.erased Syntax.imm Lent.refS)) (List._∷_ (13, Rows.any-gone (Syntax.tyRef Syntax.erased Syntax.mut (Syntax.tyInt Syntax.w64))) (List._∷_ (14, Mut.mslice (Referent.rtF (Referent.fInt Syntax.w64)) (Syntax.tyRef Syntax.erased Syntax.mut (Syntax.tyInt Syntax.w64)) 4) (List._∷_ (15, Rows.any-gone Syntax.tyBool) List.[])))))))))))))))
+        g8 = List._∷_ (0, Rows.any-gone (Syntax.tyStruct (List._∷_ 114 (List._∷_ 117 (List._∷_ 108 (List._∷_ 101 (List._∷_ 115 (List._∷_ 58 (List._∷_ 58 (List._∷_ 65 (List._∷_ 110 (List._∷_ 115 (List._∷_ 119 (List._∷_ 101 (List._∷_ 114 List.[]))))))))))))) (Syntax.tcons (Syntax.tyEnum (List._∷_ 114 (List._∷_ 117 (List._∷_ 108 (List._∷_ 101 (List._∷_ 115 (List._∷_ 58 (List._∷_ 58 (List._∷_ 79 (List._∷_ 117 (List._∷_ 116 (List._∷_ 99 (List._∷_ 111 (List._∷_ 109 (List._∷_ 101 List.[])))))))))))))) (Syntax.ttcons Syntax.tnil (Syntax.ttcons (Syntax.tcons (Syntax.tyInt Syntax.w16) Syntax.tnil) (Syntax.ttcons (Syntax.tcons (Syntax.tyInt Syntax.w16) Syntax.tnil) Syntax.ttnil)))) (Syntax.tcons (Syntax.tyInt Syntax.w64) (Syntax.tcons (Syntax.tyInt Syntax.w64) Syntax.tnil))))) (List._∷_ (1, Rows.sslice (Referent.rtF (Referent.fInt Syntax.w8)) (Syntax.tyRef (Syntax.named 0) Syntax.imm (Syntax.tyInt Syntax.w8)) 0) (List._∷_ (2, Rows.sc-here (Row.sInt Syntax.w64)) (List._∷_ (3, Rows.sc-here Row.sBool) (List._∷_ (4, Relend.mslice-owed (Referent.rtF (Referent.fInt Syntax.w64)) (Syntax.tyRef (Syntax.named 1) Syntax.mut (Syntax.tyInt Syntax.w64)) 1 4 (Row.lease (κs .1 .0) (qs .1 .0))) (List._∷_ (5, Rows.mref Lent.R (Syntax.tyRef (Syntax.named 2) Syntax.mut Lent.refS) 2) (List._∷_ (6, Rows.sc-here Row.sBool) (List._∷_ (7, Rows.whole (Declared'.row PositionSyntax.the-type)) (List._∷_ (8, Rows.any-gone (Syntax.tyStruct (List._∷_ 112 (List._∷_ 111 (List._∷_ 115 (List._∷_ 105 (List._∷_ 116 (List._∷_ 105 (List._∷_ 111 (List._∷_ 110 (List._∷_ 95 (List._∷_ 97 (List._∷_ 108 (List._∷_ 111 (List._∷_ 110 (List._∷_ 101 (List._∷_ 58 (List._∷_ 58 (List._∷_ 80 (List._∷_ 111 (List._∷_ 115 (List._∷_ 105 (List._∷_ 116 (List._∷_ 105 (List._∷_ 111 (List._∷_ 110 (List._∷_ 65 (List._∷_ 110 (List._∷_ 115 (List._∷_ 119 (List._∷_ 101 (List._∷_ 114 List.[])))))))))))))))))))))))))))))) (Syntax.tcons (Syntax.tyStruct (List._∷_ 114 (List._∷_ 117 (List._∷_ 108 (List._∷_ 101 (List._∷_ 115 (List._∷_ 58 (List._∷_ 58 (List._∷_ 65 (List._∷_ 110 (List._∷_ 115 (List._∷_ 119 (List._∷_ 101 (List._∷_ 114 List.[]))))))))))))) (Syntax.tcons (Syntax.tyEnum (List._∷_ 114 (List._∷_ 117 (List._∷_ 108 (List._∷_ 101 (List._∷_ 115 (List._∷_ 58 (List._∷_ 58 (List._∷_ 79 (List._∷_ 117 (List._∷_ 116 (List._∷_ 99 (List._∷_ 111 (List._∷_ 109 (List._∷_ 101 List.[])))))))))))))) (Syntax.ttcons Syntax.tnil (Syntax.ttcons (Syntax.tcons (Syntax.tyInt Syntax.w16) Syntax.tnil) (Syntax.ttcons (Syntax.tcons (Syntax.tyInt Syntax.w16) Syntax.tnil) Syntax.ttnil)))) (Syntax.tcons (Syntax.tyInt Syntax.w64) (Syntax.tcons (Syntax.tyInt Syntax.w64) Syntax.tnil)))) (Syntax.tcons (Syntax.tyStruct (List._∷_ 112 (List._∷_ 111 (List._∷_ 115 (List._∷_ 105 (List._∷_ 116 (List._∷_ 105 (List._∷_ 111 (List._∷_ 110 (List._∷_ 58 (List._∷_ 58 (List._∷_ 80 (List._∷_ 111 (List._∷_ 115 (List._∷_ 105 (List._∷_ 116 (List._∷_ 105 (List._∷_ 111 (List._∷_ 110 (List._∷_ 83 (List._∷_ 121 (List._∷_ 110 (List._∷_ 116 (List._∷_ 97 (List._∷_ 120 List.[])))))))))))))))))))))))) (Syntax.tcons Syntax.tyBool (Syntax.tcons Syntax.tyBool (Syntax.tcons (Syntax.tyInt Syntax.w64) (Syntax.tcons (Syntax.tyInt Syntax.w64) (Syntax.tcons (Syntax.tyInt Syntax.w64) (Syntax.tcons Syntax.tyBool Syntax.tnil))))))) Syntax.tnil)))) (List._∷_ (9, Rows.any-gone (Syntax.tyStruct (List._∷_ 114 (List._∷_ 117 (List._∷_ 108 (List._∷_ 101 (List._∷_ 115 (List._∷_ 58 (List._∷_ 58 (List._∷_ 65 (List._∷_ 110 (List._∷_ 115 (List._∷_ 119 (List._∷_ 101 (List._∷_ 114 List.[]))))))))))))) (Syntax.tcons (Syntax.tyEnum (List._∷_ 114 (List._∷_ 117 (List._∷_ 108 (List._∷_ 101 (List._∷_ 115 (List._∷_ 58 (List._∷_ 58 (List._∷_ 79 (List._∷_ 117 (List._∷_ 116 (List._∷_ 99 (List._∷_ 111 (List._∷_ 109 (List._∷_ 101 List.[])))))))))))))) (Syntax.ttcons Syntax.tnil (Syntax.ttcons (Syntax.tcons (Syntax.tyInt Syntax.w16) Syntax.tnil) (Syntax.ttcons (Syntax.tcons (Syntax.tyInt Syntax.w16) Syntax.tnil) Syntax.ttnil)))) (Syntax.tcons (Syntax.tyInt Syntax.w64) (Syntax.tcons (Syntax.tyInt Syntax.w64) Syntax.tnil))))) (List._∷_ (10, Rows.any-gone (Syntax.tyEnum (List._∷_ 114 (List._∷_ 117 (List._∷_ 108 (List._∷_ 101 (List._∷_ 115 (List._∷_ 58 (List._∷_ 58 (List._∷_ 79 (List._∷_ 117 (List._∷_ 116 (List._∷_ 99 (List._∷_ 111 (List._∷_ 109 (List._∷_ 101 List.[])))))))))))))) (Syntax.ttcons Syntax.tnil (Syntax.ttcons (Syntax.tcons (Syntax.tyInt Syntax.w16) Syntax.tnil) (Syntax.ttcons (Syntax.tcons (Syntax.tyInt Syntax.w16) Syntax.tnil) Syntax.ttnil))))) (List._∷_ (11, Rows.any-gone (Syntax.tyStruct (List._∷_ 112 (List._∷_ 111 (List._∷_ 115 (List._∷_ 105 (List._∷_ 116 (List._∷_ 105 (List._∷_ 111 (List._∷_ 110 (List._∷_ 58 (List._∷_ 58 (List._∷_ 80 (List._∷_ 111 (List._∷_ 115 (List._∷_ 105 (List._∷_ 116 (List._∷_ 105 (List._∷_ 111 (List._∷_ 110 (List._∷_ 83 (List._∷_ 121 (List._∷_ 110 (List._∷_ 116 (List._∷_ 97 (List._∷_ 120 List.[])))))))))))))))))))))))) (Syntax.tcons Syntax.tyBool (Syntax.tcons Syntax.tyBool (Syntax.tcons (Syntax.tyInt Syntax.w64) (Syntax.tcons (Syntax.tyInt Syntax.w64) (Syntax.tcons (Syntax.tyInt Syntax.w64) (Syntax.tcons Syntax.tyBool Syntax.tnil)))))))) (List._∷_ (12, Rows.any-gone (Syntax.tyRef Syntax.erased Syntax.imm Lent.refS)) (List._∷_ (13, Rows.any-gone (Syntax.tyRef Syntax.erased Syntax.mut (Syntax.tyInt Syntax.w64))) (List._∷_ (14, Mut.mslice (Referent.rtF (Referent.fInt Syntax.w64)) (Syntax.tyRef Syntax.erased Syntax.mut (Syntax.tyInt Syntax.w64)) 4) (List._∷_ (15, Rows.any-gone Syntax.tyBool) List.[])))))))))))))))
 
         abbrev g9 : List.List Row.Entry
         g9 = List._∷_ (0, Rows.any-gone (Syntax.tyStruct (List._∷_ 114 (List._∷_ 117 (List._∷_ 108 (List._∷_ 101 (List._∷_ 115 (List._∷_ 58 (List._∷_ 58 (List._∷_ 65 (List._∷_ 110 (List._∷_ 115 (List._∷_ 119 (List._∷_ 101 (List._∷_ 114 List.[]))))))))))))) (Syntax.tcons (Syntax.tyEnum (List._∷_ 114 (List._∷_ 117 (List._∷_ 108 (List._∷_ 101 (List._∷_ 115 (List._∷_ 58 (List._∷_ 58 (List._∷_ 79 (List._∷_ 117 (List._∷_ 116 (List._∷_ 99 (List._∷_ 111 (List._∷_ 109 (List._∷_ 101 List.[])))))))))))))) (Syntax.ttcons Syntax.tnil (Syntax.ttcons (Syntax.tcons (Syntax.tyInt Syntax.w16) Syntax.tnil) (Syntax.ttcons (Syntax.tcons (Syntax.tyInt Syntax.w16) Syntax.tnil) Syntax.ttnil)))) (Syntax.tcons (Syntax.tyInt Syntax.w64) (Syntax.tcons (Syntax.tyInt Syntax.w64) Syntax.tnil))))) (List._∷_ (1, Rows.sslice (Referent.rtF (Referent.fInt Syntax.w8)) (Syntax.tyRef (Syntax.named 0) Syntax.imm (Syntax.tyInt Syntax.w8)) 0) (List._∷_ (2, Rows.sc-here (Row.sInt Syntax.w64)) (List._∷_ (3, Rows.sc-here Row.sBool) (List._∷_ (4, Relend.mslice-owed (Referent.rtF (Referent.fInt Syntax.w64)) (Syntax.tyRef (Syntax.named 1) Syntax.mut (Syntax.tyInt Syntax.w64)) 1 4 (Row.lease (κs .1 .0) (qs .1 .0))) (List._∷_ (5, Rows.mref Lent.R (Syntax.tyRef (Syntax.named 2) Syntax.mut Lent.refS) 2) (List._∷_ (6, Rows.sc-here Row.sBool) (List._∷_ (7, Rows.whole (Declared'.row PositionSyntax.the-type)) (List._∷_ (8, Rows.whole (Declared'.row PositionAnswer.the-type)) (List._∷_ (9, Rows.any-gone (Syntax.tyStruct (List._∷_ 114 (List._∷_ 117 (List._∷_ 108 (List._∷_ 101 (List._∷_ 115 (List._∷_ 58 (List._∷_ 58 (List._∷_ 65 (List._∷_ 110 (List._∷_ 115 (List._∷_ 119 (List._∷_ 101 (List._∷_ 114 List.[]))))))))))))) (Syntax.tcons (Syntax.tyEnum (List._∷_ 114 (List._∷_ 117 (List._∷_ 108 (List._∷_ 101 (List._∷_ 115 (List._∷_ 58 (List._∷_ 58 (List._∷_ 79 (List._∷_ 117 (List._∷_ 116 (List._∷_ 99 (List._∷_ 111 (List._∷_ 109 (List._∷_ 101 List.[])))))))))))))) (Syntax.ttcons Syntax.tnil (Syntax.ttcons (Syntax.tcons (Syntax.tyInt Syntax.w16) Syntax.tnil) (Syntax.ttcons (Syntax.tcons (Syntax.tyInt Syntax.w16) Syntax.tnil) Syntax.ttnil)))) (Syntax.tcons (Syntax.tyInt Syntax.w64) (Syntax.tcons (Syntax.tyInt Syntax.w64) Syntax.tnil))))) (List._∷_ (10, Rows.any-gone (Syntax.tyEnum (List._∷_ 114 (List._∷_ 117 (List._∷_ 108 (List._∷_ 101 (List._∷_ 115 (List._∷_ 58 (List._∷_ 58 (List._∷_ 79 (List._∷_ 117 (List._∷_ 116 (List._∷_ 99 (List._∷_ 111 (List._∷_ 109 (List._∷_ 101 List.[])))))))))))))) (Syntax.ttcons Syntax.tnil (Syntax.ttcons (Syntax.tcons (Syntax.tyInt Syntax.w16) Syntax.tnil) (Syntax.ttcons (Syntax.tcons (Syntax.tyInt Syntax.w16) Syntax.tnil) Syntax.ttnil))))) (List._∷_ (11, Rows.any-gone (Syntax.tyStruct (List._∷_ 112 (List._∷_ 111 (List._∷_ 115 (List._∷_ 105 (List._∷_ 116 (List._∷_ 105 (List._∷_ 111 (List._∷_ 110 (List._∷_ 58 (List._∷_ 58 (List._∷_ 80 (List._∷_ 111 (List._∷_ 115 (List._∷_ 105 (List._∷_ 116 (List._∷_ 105 (List._∷_ 111 (List._∷_ 110 (List._∷_ 83 (List._∷_ 121 (List._∷_ 110 (List._∷_ 116 (List._∷_ 97 (List._∷_ 120 List.[])))))))))))))))))))))))) (Syntax.tcons Syntax.tyBool (Syntax.tcons Syntax.tyBool (Syntax.tcons (Syntax.tyInt Syntax.w64) (Syntax.tcons (Syntax.tyInt Syntax.w64) (Syntax.tcons (Syntax.tyInt Syntax.w64) (Syntax.tcons Syntax.tyBool Syntax.tnil)))))))) (List._∷_ (12, Rows.any-gone (Syntax.tyRef Syntax.erased Syntax.imm Lent.refS)) (List._∷_ (13, Rows.any-gone (Syntax.tyRef Syntax.erased Syntax.mut (Syntax.tyInt Syntax.w64))) (List._∷_ (14, Mut.msleft (Referent.rtF (Referent.fInt Syntax.w64)) (Syntax.tyRef Syntax.erased Syntax.mut (Syntax.tyInt Syntax.w64))) (List._∷_ (15, Rows.any-gone Syntax.tyBool) List.[])))))))))))))))
@@ -642,10 +642,10 @@ module _ (claims· : Claims) where
         g10 = List._∷_ (0, Rows.any-gone (Syntax.tyStruct (List._∷_ 114 (List._∷_ 117 (List._∷_ 108 (List._∷_ 101 (List._∷_ 115 (List._∷_ 58 (List._∷_ 58 (List._∷_ 65 (List._∷_ 110 (List._∷_ 115 (List._∷_ 119 (List._∷_ 101 (List._∷_ 114 List.[]))))))))))))) (Syntax.tcons (Syntax.tyEnum (List._∷_ 114 (List._∷_ 117 (List._∷_ 108 (List._∷_ 101 (List._∷_ 115 (List._∷_ 58 (List._∷_ 58 (List._∷_ 79 (List._∷_ 117 (List._∷_ 116 (List._∷_ 99 (List._∷_ 111 (List._∷_ 109 (List._∷_ 101 List.[])))))))))))))) (Syntax.ttcons Syntax.tnil (Syntax.ttcons (Syntax.tcons (Syntax.tyInt Syntax.w16) Syntax.tnil) (Syntax.ttcons (Syntax.tcons (Syntax.tyInt Syntax.w16) Syntax.tnil) Syntax.ttnil)))) (Syntax.tcons (Syntax.tyInt Syntax.w64) (Syntax.tcons (Syntax.tyInt Syntax.w64) Syntax.tnil))))) (List._∷_ (1, Rows.sslice (Referent.rtF (Referent.fInt Syntax.w8)) (Syntax.tyRef (Syntax.named 0) Syntax.imm (Syntax.tyInt Syntax.w8)) 0) (List._∷_ (2, Rows.sc-here (Row.sInt Syntax.w64)) (List._∷_ (3, Rows.sc-here Row.sBool) (List._∷_ (4, Relend.mslice-owed (Referent.rtF (Referent.fInt Syntax.w64)) (Syntax.tyRef (Syntax.named 1) Syntax.mut (Syntax.tyInt Syntax.w64)) 1 4 (Row.lease (κs .1 .0) (qs .1 .0))) (List._∷_ (5, Rows.mref Lent.R (Syntax.tyRef (Syntax.named 2) Syntax.mut Lent.refS) 2) (List._∷_ (6, Rows.sc-here Row.sBool) (List._∷_ (7, Rows.any-gone (Syntax.tyStruct (List._∷_ 112 (List._∷_ 111 (List._∷_ 115 (List._∷_ 105 (List._∷_ 116 (List._∷_ 105 (List._∷_ 111 (List._∷_ 110 (List._∷_ 58 (List._∷_ 58 (List._∷_ 80 (List._∷_ 111 (List._∷_ 115 (List._∷_ 105 (List._∷_ 116 (List._∷_ 105 (List._∷_ 111 (List._∷_ 110 (List._∷_ 83 (List._∷_ 121 (List._∷_ 110 (List._∷_ 116 (List._∷_ 97 (List._∷_ 120 List.[])))))))))))))))))))))))) (Syntax.tcons Syntax.tyBool (Syntax.tcons Syntax.tyBool (Syntax.tcons (Syntax.tyInt Syntax.w64) (Syntax.tcons (Syntax.tyInt Syntax.w64) (Syntax.tcons (Syntax.tyInt Syntax.w64) (Syntax.tcons Syntax.tyBool Syntax.tnil)))))))) (List._∷_ (8, Rows.whole (Declared'.row PositionAnswer.the-type)) (List._∷_ (9, Rows.any-gone (Syntax.tyStruct (List._∷_ 114 (List._∷_ 117 (List._∷_ 108 (List._∷_ 101 (List._∷_ 115 (List._∷_ 58 (List._∷_ 58 (List._∷_ 65 (List._∷_ 110 (List._∷_ 115 (List._∷_ 119 (List._∷_ 101 (List._∷_ 114 List.[]))))))))))))) (Syntax.tcons (Syntax.tyEnum (List._∷_ 114 (List._∷_ 117 (List._∷_ 108 (List._∷_ 101 (List._∷_ 115 (List._∷_ 58 (List._∷_ 58 (List._∷_ 79 (List._∷_ 117 (List._∷_ 116 (List._∷_ 99 (List._∷_ 111 (List._∷_ 109 (List._∷_ 101 List.[])))))))))))))) (Syntax.ttcons Syntax.tnil (Syntax.ttcons (Syntax.tcons (Syntax.tyInt Syntax.w16) Syntax.tnil) (Syntax.ttcons (Syntax.tcons (Syntax.tyInt Syntax.w16) Syntax.tnil) Syntax.ttnil)))) (Syntax.tcons (Syntax.tyInt Syntax.w64) (Syntax.tcons (Syntax.tyInt Syntax.w64) Syntax.tnil))))) (List._∷_ (10, Rows.any-gone (Syntax.tyEnum (List._∷_ 114 (List._∷_ 117 (List._∷_ 108 (List._∷_ 101 (List._∷_ 115 (List._∷_ 58 (List._∷_ 58 (List._∷_ 79 (List._∷_ 117 (List._∷_ 116 (List._∷_ 99 (List._∷_ 111 (List._∷_ 109 (List._∷_ 101 List.[])))))))))))))) (Syntax.ttcons Syntax.tnil (Syntax.ttcons (Syntax.tcons (Syntax.tyInt Syntax.w16) Syntax.tnil) (Syntax.ttcons (Syntax.tcons (Syntax.tyInt Syntax.w16) Syntax.tnil) Syntax.ttnil))))) (List._∷_ (11, Rows.any-gone (Syntax.tyStruct (List._∷_ 112 (List._∷_ 111 (List._∷_ 115 (List._∷_ 105 (List._∷_ 116 (List._∷_ 105 (List._∷_ 111 (List._∷_ 110 (List._∷_ 58 (List._∷_ 58 (List._∷_ 80 (List._∷_ 111 (List._∷_ 115 (List._∷_ 105 (List._∷_ 116 (List._∷_ 105 (List._∷_ 111 (List._∷_ 110 (List._∷_ 83 (List._∷_ 121 (List._∷_ 110 (List._∷_ 116 (List._∷_ 97 (List._∷_ 120 List.[])))))))))))))))))))))))) (Syntax.tcons Syntax.tyBool (Syntax.tcons Syntax.tyBool (Syntax.tcons (Syntax.tyInt Syntax.w64) (Syntax.tcons (Syntax.tyInt Syntax.w64) (Syntax.tcons (Syntax.tyInt Syntax.w64) (Syntax.tcons Syntax.tyBool Syntax.tnil)))))))) (List._∷_ (12, Rows.any-gone (Syntax.tyRef Syntax.erased Syntax.imm Lent.refS)) (List._∷_ (13, Rows.any-gone (Syntax.tyRef Syntax.erased Syntax.mut (Syntax.tyInt Syntax.w64))) (List._∷_ (14, Mut.msleft (Referent.rtF (Referent.fInt Syntax.w64)) (Syntax.tyRef Syntax.erased Syntax.mut (Syntax.tyInt Syntax.w64))) (List._∷_ (15, Rows.any-gone Syntax.tyBool) List.[])))))))))))))))
 
         abbrev g19 : List.List Row.Entry
-        g19 = List._∷_ (0, Rows.any-gone (Syntax.tyStruct (List._∷_ 114 (List._∷_ 117 (List._∷_ 108 (List._∷_ 101 (List._∷_ 115 (List._∷_ 58 (List._∷_ 58 (List._∷_ 65 (List._∷_ 110 (List._∷_ 115 (List._∷_ 119 (List._∷_ 101 (List._∷_ 114 List.[]))))))))))))) (Syntax.tcons (Syntax.tyEnum (List._∷_ 114 (List._∷_ 117 (List._∷_ 108 (List._∷_ 101 (List._∷_ 115 (List._∷_ 58 (List._∷_ 58 (List._∷_ 79 (List._∷_ 117 (List._∷_ 116 (List._∷_ 99 (List._∷_ 111 (List._∷_ 109 (List._∷_ 101 List.[])))))))))))))) (Syntax.ttcons Syntax.tnil (Syntax.ttcons (Syntax.tcons (Syntax.tyInt Syntax.w16) Syntax.tnil) (Syntax.ttcons (Syntax.tcons (Syntax.tyInt Syntax.w16) Syntax.tnil) Syntax.ttnil)))) (Syntax.tcons (Syntax.tyInt Syntax.w64) (Syntax.tcons (Syntax.tyInt Syntax.w64) Syntax.tnil))))) (List._∷_ (1, Rows.sslice (Referent.rtF (Referent.fInt Syntax.w8)) (Syntax.tyRef (Syntax.named 0) Syntax.imm (Syntax.tyInt Syntax.w8)) 0) (List._∷_ (2, Rows.sc-here (Row.sInt Syntax.w64)) (List._∷_ (3, Rows.sc-here Row.sBool) (List._∷_ (4, Mut.mslice (Referent.rtF (Referent.fInt Syntax.w64)) (Syntax.tyRef (Syntax.named 1) Syntax.mut (Syntax.tyInt Syntax.w64)) 1) (List._∷_ (5, Rows.mref-owed Lent.R (Syntax.tyRef (Syntax.named 2) Syntax.mut Lent.refS) 2 5 (Row.lease (κs .1 .1 .0) (qs .1 .1 .0))) (List._∷_ (6, Rows.sc-here Row.sBool) (List._∷_ (7, Rows.any-gone (Syntax.tyStruct (List._∷_ 112 (List._∷_ 111 (List._∷_ 115 (List._∷_ 105 (List._∷_ 116 (List._∷_ 105 (List._∷_ 111 (List._∷_ 110 (List._∷_ 58 (List._∷_ 58 (List._∷_ 80 (List._∷_ 111 (List._∷_ 115 (List._∷_ 105 (List._∷_ 116 (List._∷_ 105 (List._∷_ 111 (List._∷_ 110 (List._∷_ 83 (List._∷_ 121 (List._∷_ 110 (List._∷_ 116 (List._∷_ 97 (List._∷_ 120 List.[])))))))))))))))))))))))) (Syntax.tcons Syntax.tyBool (Syntax.tcons Syntax.tyBool (Syntax.tcons (Syntax.tyInt Syntax.w64) (Syntax.tcons (Syntax.tyInt Syntax.w64) (Syntax.tcons (Syntax.tyInt Syntax.w64) (Syntax.tcons Syntax.tyBool Syntax.tnil)))))))) (List._∷_ (8, Rows.any-gone (Syntax.tyStruct (List._∷_ 112 (List._∷_ 111 (List._∷_ 115 (List._∷_ 105 (List._∷_ 116 (List._∷_ 105 (List._∷_ 111 (List._∷_ 110 (List._∷_ 58 (List._∷_ 58 (List._∷_ 80 (List._∷_ 111 (List._∷_ 115 (List._∷_ 105 (List._∷_ 116 (List._∷_ 105 (List._∷_ 111 (List._∷_ 110 (List._∷_ 65 (List._∷_ 110 (List._∷_ 115 (List._∷_ 119 (List._∷_ 101 (List._∷_ 114 List.[])))))))))))))))))))))))) (Syntax.tcons (Syntax.tyStruct (List._∷_ 114 (List._∷_ 117 (List._∷_ 108 (List._∷_ 101 (List._∷_ 115 (List._∷_ 58 (List._∷_ 58 (List._∷_ 65 (List._∷_ 110 (List._∷_ 115 (List._∷_ 119 (List._∷_ 101 (List._∷_ 114 List.[]))))))))))))) (Syntax.tcons (Syntax.tyEnum (List._∷_ 114 (List._∷_ 117 (List._∷_ 108 (List._∷_ 101 (List._∷_ 115 (List._∷_ 58 (List._∷_ 58 (List._∷_ 79 (List._∷_ 117 (List._∷_ 116 (List._∷_ 99 (List._∷_ 111 (List._∷_ 109 (List._∷_ 101 List.[])))))))))))))) (Syntax.ttcons Syntax.tnil (Syntax.ttcons (Syntax.tcons (Syntax.tyInt Syntax.w16) Syntax.tnil) (Syntax.ttcons (Syntax.tcons (Syntax.tyInt Syntax.w16) Syntax.tnil) Syntax.ttnil)))) (Syntax.tcons (Syntax.tyInt Syntax.w64) (Syntax.tcons (Syntax.tyInt Syntax.w64) Syntax.tnil)))) (Syntax.tcons (Syntax.tyStruct (List._∷_ 112 (List._∷_ 111 (List._∷_ 115 (List._∷_ 105 (List._∷_ 116 (List._∷_ 105 (List._∷_ 111 (List._∷_ 110 (List._∷_ 58 (List._∷_ 58 (List._∷_ 80 (List._∷_ 111 (List._∷_ 115 (List._∷_ 105 (List._∷_ 116 (List._∷_ 105 (List._∷_ 111 (List._∷_ 110 (List._∷_ 83 (List._∷_ 121 (List._∷_ 110 (List._∷_ 116 (List._∷_ 97 (List._∷_ 120 List.[])))))))))))))))))))))))) (Syntax.tcons Syntax.tyBool (Syntax.tcons Syntax.tyBool (Syntax.tcons (Syntax.tyInt Syntax.w64) (Syntax.tcons (Syntax.tyInt Syntax.w64) (Syntax.tcons (Syntax.tyInt Syntax.w64) (Syntax.tcons Syntax.tyBool Syntax.tnil))))))) Syntax.tnil)))) (List._∷_ (9, Rows.whole (Declared'.row Answer.the-type)) (List._∷_ (10, Rows.any-gone (Syntax.tyEnum (List._∷_ 114 (List._∷_ 117 (List._∷_ 108 (List._∷_ 101 (List._∷_ 115 (List._∷_ 58 (List._∷_ 58 (List._∷_ 79 (List._∷_ 117 (List._∷_ 116 (List._∷_ 99 (List._∷_ 111 (List._∷_ 109 (List._∷_ 101 List.[])))))))))))))) (Syntax.ttcons Syntax.tnil (Syntax.ttcons (Syntax.tcons (Syntax.tyInt Syntax.w16) Syntax.tnil) (Syntax.ttcons (Syntax.tcons (Syntax.tyInt Syntax.w16) Syntax.tnil) Syntax.ttnil))))) (List._∷_ (11, Rows.whole (Declared'.row PositionSyntax.the-type)) (List._∷_ (12, Rows.any-gone (Syntax.tyRef Syntax.erased Syntax.imm Lent.refS)) (List._∷_ (13, Rows.any-gone (Syntax.tyRef Syntax.erased Syntax.mut (Syntax.tyInt Syntax.w64))) (List._∷_ (14, Rows.any-gone (Syntax.tyStruct (List._∷_ 38 (List._∷_ 91 (List._∷_ 93 List.[]))) (Syntax.tcons (Syntax.tyRef Syntax.erased Syntax.mut (Syntax.tyInt Syntax.w64)) (Syntax.tcons (Syntax.tyInt Syntax.w64) Syntax.tnil)))) (List._∷_ (15, Rows.any-gone Syntax.tyBool) List.[])))))))))))))))
+        g19 = List._∷_ (0, Rows.any-gone (Syntax.tyStruct (List._∷_ 114 (List._∷_ 117 (List._∷_ 108 (List._∷_ 101 (List._∷_ 115 (List._∷_ 58 (List._∷_ 58 (List._∷_ 65 (List._∷_ 110 (List._∷_ 115 (List._∷_ 119 (List._∷_ 101 (List._∷_ 114 List.[]))))))))))))) (Syntax.tcons (Syntax.tyEnum (List._∷_ 114 (List._∷_ 117 (List._∷_ 108 (List._∷_ 101 (List._∷_ 115 (List._∷_ 58 (List._∷_ 58 (List._∷_ 79 (List._∷_ 117 (List._∷_ 116 (List._∷_ 99 (List._∷_ 111 (List._∷_ 109 (List._∷_ 101 List.[])))))))))))))) (Syntax.ttcons Syntax.tnil (Syntax.ttcons (Syntax.tcons (Syntax.tyInt Syntax.w16) Syntax.tnil) (Syntax.ttcons (Syntax.tcons (Syntax.tyInt Syntax.w16) Syntax.tnil) Syntax.ttnil)))) (Syntax.tcons (Syntax.tyInt Syntax.w64) (Syntax.tcons (Syntax.tyInt Syntax.w64) Syntax.tnil))))) (List._∷_ (1, Rows.sslice (Referent.rtF (Referent.fInt Syntax.w8)) (Syntax.tyRef (Syntax.named 0) Syntax.imm (Syntax.tyInt Syntax.w8)) 0) (List._∷_ (2, Rows.sc-here (Row.sInt Syntax.w64)) (List._∷_ (3, Rows.sc-here Row.sBool) (List._∷_ (4, Mut.mslice (Referent.rtF (Referent.fInt Syntax.w64)) (Syntax.tyRef (Syntax.named 1) Syntax.mut (Syntax.tyInt Syntax.w64)) 1) (List._∷_ (5, Rows.mref-owed Lent.R (Syntax.tyRef (Syntax.named 2) Syntax.mut Lent.refS) 2 5 (Row.lease (κs .1 .1 .0) (qs .1 .1 .0))) (List._∷_ (6, Rows.sc-here Row.sBool) (List._∷_ (7, Rows.any-gone (Syntax.tyStruct (List._∷_ 112 (List._∷_ 111 (List._∷_ 115 (List._∷_ 105 (List._∷_ 116 (List._∷_ 105 (List._∷_ 111 (List._∷_ 110 (List._∷_ 58 (List._∷_ 58 (List._∷_ 80 (List._∷_ 111 (List._∷_ 115 (List._∷_ 105 (List._∷_ 116 (List._∷_ 105 (List._∷_ 111 (List._∷_ 110 (List._∷_ 83 (List._∷_ 121 (List._∷_ 110 (List._∷_ 116 (List._∷_ 97 (List._∷_ 120 List.[])))))))))))))))))))))))) (Syntax.tcons Syntax.tyBool (Syntax.tcons Syntax.tyBool (Syntax.tcons (Syntax.tyInt Syntax.w64) (Syntax.tcons (Syntax.tyInt Syntax.w64) (Syntax.tcons (Syntax.tyInt Syntax.w64) (Syntax.tcons Syntax.tyBool Syntax.tnil)))))))) (List._∷_ (8, Rows.any-gone (Syntax.tyStruct (List._∷_ 112 (List._∷_ 111 (List._∷_ 115 (List._∷_ 105 (List._∷_ 116 (List._∷_ 105 (List._∷_ 111 (List._∷_ 110 (List._∷_ 95 (List._∷_ 97 (List._∷_ 108 (List._∷_ 111 (List._∷_ 110 (List._∷_ 101 (List._∷_ 58 (List._∷_ 58 (List._∷_ 80 (List._∷_ 111 (List._∷_ 115 (List._∷_ 105 (List._∷_ 116 (List._∷_ 105 (List._∷_ 111 (List._∷_ 110 (List._∷_ 65 (List._∷_ 110 (List._∷_ 115 (List._∷_ 119 (List._∷_ 101 (List._∷_ 114 List.[])))))))))))))))))))))))))))))) (Syntax.tcons (Syntax.tyStruct (List._∷_ 114 (List._∷_ 117 (List._∷_ 108 (List._∷_ 101 (List._∷_ 115 (List._∷_ 58 (List._∷_ 58 (List._∷_ 65 (List._∷_ 110 (List._∷_ 115 (List._∷_ 119 (List._∷_ 101 (List._∷_ 114 List.[]))))))))))))) (Syntax.tcons (Syntax.tyEnum (List._∷_ 114 (List._∷_ 117 (List._∷_ 108 (List._∷_ 101 (List._∷_ 115 (List._∷_ 58 (List._∷_ 58 (List._∷_ 79 (List._∷_ 117 (List._∷_ 116 (List._∷_ 99 (List._∷_ 111 (List._∷_ 109 (List._∷_ 101 List.[])))))))))))))) (Syntax.ttcons Syntax.tnil (Syntax.ttcons (Syntax.tcons (Syntax.tyInt Syntax.w16) Syntax.tnil) (Syntax.ttcons (Syntax.tcons (Syntax.tyInt Syntax.w16) Syntax.tnil) Syntax.ttnil)))) (Syntax.tcons (Syntax.tyInt Syntax.w64) (Syntax.tcons (Syntax.tyInt Syntax.w64) Syntax.tnil)))) (Syntax.tcons (Syntax.tyStruct (List._∷_ 112 (List._∷_ 111 (List._∷_ 115 (List._∷_ 105 (List._∷_ 116 (List._∷_ 105 (List._∷_ 111 (List._∷_ 110 (List._∷_ 58 (List._∷_ 58 (List._∷_ 80 (List._∷_ 111 (List._∷_ 115 (List._∷_ 105 (List._∷_ 116 (List._∷_ 105 (List._∷_ 111 (List._∷_ 110 (List._∷_ 83 (List._∷_ 121 (List._∷_ 110 (List._∷_ 116 (List._∷_ 97 (List._∷_ 120 List.[])))))))))))))))))))))))) (Syntax.tcons Syntax.tyBool (Syntax.tcons Syntax.tyBool (Syntax.tcons (Syntax.tyInt Syntax.w64) (Syntax.tcons (Syntax.tyInt Syntax.w64) (Syntax.tcons (Syntax.tyInt Syntax.w64) (Syntax.tcons Syntax.tyBool Syntax.tnil))))))) Syntax.tnil)))) (List._∷_ (9, Rows.whole (Declared'.row Answer.the-type)) (List._∷_ (10, Rows.any-gone (Syntax.tyEnum (List._∷_ 114 (List._∷_ 117 (List._∷_ 108 (List._∷_ 101 (List._∷_ 115 (List._∷_ 58 (List._∷_ 58 (List._∷_ 79 (List._∷_ 117 (List._∷_ 116 (List._∷_ 99 (List._∷_ 111 (List._∷_ 109 (List._∷_ 101 List.[])))))))))))))) (Syntax.ttcons Syntax.tnil (Syntax.ttcons (Syntax.tcons (Syntax.tyInt Syntax.w16) Syntax.tnil) (Syntax.ttcons (Syntax.tcons (Syntax.tyInt Syntax.w16) Syntax.tnil) Syntax.ttnil))))) (List._∷_ (11, Rows.whole (Declared'.row PositionSyntax.the-type)) (List._∷_ (12, Rows.any-gone (Syntax.tyRef Syntax.erased Syntax.imm Lent.refS)) (List._∷_ (13, Rows.any-gone (Syntax.tyRef Syntax.erased Syntax.mut (Syntax.tyInt Syntax.w64))) (List._∷_ (14, Rows.any-gone (Syntax.tyStruct (List._∷_ 38 (List._∷_ 91 (List._∷_ 93 List.[]))) (Syntax.tcons (Syntax.tyRef Syntax.erased Syntax.mut (Syntax.tyInt Syntax.w64)) (Syntax.tcons (Syntax.tyInt Syntax.w64) Syntax.tnil)))) (List._∷_ (15, Rows.any-gone Syntax.tyBool) List.[])))))))))))))))
 
         abbrev g22 : List.List Row.Entry
-        g22 = List._∷_ (0, Rows.any-gone (Syntax.tyStruct (List._∷_ 114 (List._∷_ 117 (List._∷_ 108 (List._∷_ 101 (List._∷_ 115 (List._∷_ 58 (List._∷_ 58 (List._∷_ 65 (List._∷_ 110 (List._∷_ 115 (List._∷_ 119 (List._∷_ 101 (List._∷_ 114 List.[]))))))))))))) (Syntax.tcons (Syntax.tyEnum (List._∷_ 114 (List._∷_ 117 (List._∷_ 108 (List._∷_ 101 (List._∷_ 115 (List._∷_ 58 (List._∷_ 58 (List._∷_ 79 (List._∷_ 117 (List._∷_ 116 (List._∷_ 99 (List._∷_ 111 (List._∷_ 109 (List._∷_ 101 List.[])))))))))))))) (Syntax.ttcons Syntax.tnil (Syntax.ttcons (Syntax.tcons (Syntax.tyInt Syntax.w16) Syntax.tnil) (Syntax.ttcons (Syntax.tcons (Syntax.tyInt Syntax.w16) Syntax.tnil) Syntax.ttnil)))) (Syntax.tcons (Syntax.tyInt Syntax.w64) (Syntax.tcons (Syntax.tyInt Syntax.w64) Syntax.tnil))))) (List._∷_ (1, Rows.sslice (Referent.rtF (Referent.fInt Syntax.w8)) (Syntax.tyRef (Syntax.named 0) Syntax.imm (Syntax.tyInt Syntax.w8)) 0) (List._∷_ (2, Rows.sc-here (Row.sInt Syntax.w64)) (List._∷_ (3, Rows.sc-here Row.sBool) (List._∷_ (4, Mut.mslice (Referent.rtF (Referent.fInt Syntax.w64)) (Syntax.tyRef (Syntax.named 1) Syntax.mut (Syntax.tyInt Syntax.w64)) 1) (List._∷_ (5, Rows.mref-owed Lent.R (Syntax.tyRef (Syntax.named 2) Syntax.mut Lent.refS) 2 5 (Row.lease (κs .1 .1 .0) (qs .1 .1 .0))) (List._∷_ (6, Rows.sc-here Row.sBool) (List._∷_ (7, Rows.any-gone (Syntax.tyStruct (List._∷_ 112 (List._∷_ 111 (List._∷_ 115 (List._∷_ 105 (List._∷_ 116 (List._∷_ 105 (List._∷_ 111 (List._∷_ 110 (List._∷_ 58 (List._∷_ 58 (List._∷_ 80 (List._∷_ 111 (List._∷_ 115 (List._∷_ 105 (List._∷_ 116 (List._∷_ 105 (List._∷_ 111 (List._∷_ 110 (List._∷_ 83 (List._∷_ 121 (List._∷_ 110 (List._∷_ 116 (List._∷_ 97 (List._∷_ 120 List.[])))))))))))))))))))))))) (Syntax.tcons Syntax.tyBool (Syntax.tcons Syntax.tyBool (Syntax.tcons (Syntax.tyInt Syntax.w64) (Syntax.tcons (Syntax.tyInt Syntax.w64) (Syntax.tcons (Syntax.tyInt Syntax.w64) (Syntax.tcons Syntax.tyBool Syntax.tnil)))))))) (List._∷_ (8, Rows.any-gone (Syntax.tyStruct (List._∷_ 112 (List._∷_ 111 (List._∷_ 115 (List._∷_ 105 (List._∷_ 116 (List._∷_ 105 (List._∷_ 111 (List._∷_ 110 (List._∷_ 58 (List._∷_ 58 (List._∷_ 80 (List._∷_ 111 (List._∷_ 115 (List._∷_ 105 (List._∷_ 116 (List._∷_ 105 (List._∷_ 111 (List._∷_ 110 (List._∷_ 65 (List._∷_ 110 (List._∷_ 115 (List._∷_ 119 (List._∷_ 101 (List._∷_ 114 List.[])))))))))))))))))))))))) (Syntax.tcons (Syntax.tyStruct (List._∷_ 114 (List._∷_ 117 (List._∷_ 108 (List._∷_ 101 (List._∷_ 115 (List._∷_ 58 (List._∷_ 58 (List._∷_ 65 (List._∷_ 110 (List._∷_ 115 (List._∷_ 119 (List._∷_ 101 (List._∷_ 114 List.[]))))))))))))) (Syntax.tcons (Syntax.tyEnum (List._∷_ 114 (List._∷_ 117 (List._∷_ 108 (List._∷_ 101 (List._∷_ 115 (List._∷_ 58 (List._∷_ 58 (List._∷_ 79 (List._∷_ 117 (List._∷_ 116 (List._∷_ 99 (List._∷_ 111 (List._∷_ 109 (List._∷_ 101 List.[])))))))))))))) (Syntax.ttcons Syntax.tnil (Syntax.ttcons (Syntax.tcons (Syntax.tyInt Syntax.w16) Syntax.tnil) (Syntax.ttcons (Syntax.tcons (Syntax.tyInt Syntax.w16) Syntax.tnil) Syntax.ttnil)))) (Syntax.tcons (Syntax.tyInt Syntax.w64) (Syntax.tcons (Syntax.tyInt Syntax.w64) Syntax.tnil)))) (Syntax.tcons (Syntax.tyStruct (List._∷_ 112 (List._∷_ 111 (List._∷_ 115 (List._∷_ 105 (List._∷_ 116 (List._∷_ 105 (List._∷_ 111 (List._∷_ 110 (List._∷_ 58 (List._∷_ 58 (List._∷_ 80 (List._∷_ 111 (List._∷_ 115 (List._∷_ 105 (List._∷_ 116 (List._∷_ 105 (List._∷_ 111 (List._∷_ 110 (List._∷_ 83 (List._∷_ 121 (List._∷_ 110 (List._∷_ 116 (List._∷_ 97 (List._∷_ 120 List.[])))))))))))))))))))))))) (Syntax.tcons Syntax.tyBool (Syntax.tcons Syntax.tyBool (Syntax.tcons (Syntax.tyInt Syntax.w64) (Syntax.tcons (Syntax.tyInt Syntax.w64) (Syntax.tcons (Syntax.tyInt Syntax.w64) (Syntax.tcons Syntax.tyBool Syntax.tnil))))))) Syntax.tnil)))) (List._∷_ (9, Rows.whole (Declared'.row Answer.the-type)) (List._∷_ (10, Rows.any-gone (Syntax.tyEnum (List._∷_ 114 (List._∷_ 117 (List._∷_ 108 (List._∷_ 101 (List._∷_ 115 (List._∷_ 58 (List._∷_ 58 (List._∷_ 79 (List._∷_ 117 (List._∷_ 116 (List._∷_ 99 (List._∷_ 111 (List._∷_ 109 (List._∷_ 101 List.[])))))))))))))) (Syntax.ttcons Syntax.tnil (Syntax.ttcons (Syntax.tcons (Syntax.tyInt Syntax.w16) Syntax.tnil) (Syntax.ttcons (Syntax.tcons (Syntax.tyInt Syntax.w16) Syntax.tnil) Syntax.ttnil))))) (List._∷_ (11, Rows.any-gone (Syntax.tyStruct (List._∷_ 112 (List._∷_ 111 (List._∷_ 115 (List._∷_ 105 (List._∷_ 116 (List._∷_ 105 (List._∷_ 111 (List._∷_ 110 (List._∷_ 58 (List._∷_ 58 (List._∷_ 80 (List._∷_ 111 (List._∷_ 115 (List._∷_ 105 (List._∷_ 116 (List._∷_ 105 (List._∷_ 111 (List._∷_ 110 (List._∷_ 83 (List._∷_ 121 (List._∷_ 110 (List._∷_ 116 (List._∷_ 97 (List._∷_ 120 List.[])))))))))))))))))))))))) (Syntax.tcons Syntax.tyBool (Syntax.tcons Syntax.tyBool (Syntax.tcons (Syntax.tyInt Syntax.w64) (Syntax.tcons (Syntax.tyInt Syntax.w64) (Syntax.tcons (Syntax.tyInt Syntax.w64) (Syntax.tcons Syntax.tyBool Syntax.tnil)))))))) (List._∷_ (12, Rows.any-gone (Syntax.tyRef Syntax.erased Syntax.imm Lent.refS)) (List._∷_ (13, Rows.any-gone (Syntax.tyRef Syntax.erased Syntax.mut (Syntax.tyInt Syntax.w64))) (List._∷_ (14, Rows.any-gone (Syntax.tyStruct (List._∷_ 38 (List._∷_ 91 (List._∷_ 93 List.[]))) (Syntax.tcons (Syntax.tyRef Syntax.erased Syntax.mut (Syntax.tyInt Syntax.w64)) (Syntax.tcons (Syntax.tyInt Syntax.w64) Syntax.tnil)))) (List._∷_ (15, Rows.any-gone Syntax.tyBool) List.[])))))))))))))))
+        g22 = List._∷_ (0, Rows.any-gone (Syntax.tyStruct (List._∷_ 114 (List._∷_ 117 (List._∷_ 108 (List._∷_ 101 (List._∷_ 115 (List._∷_ 58 (List._∷_ 58 (List._∷_ 65 (List._∷_ 110 (List._∷_ 115 (List._∷_ 119 (List._∷_ 101 (List._∷_ 114 List.[]))))))))))))) (Syntax.tcons (Syntax.tyEnum (List._∷_ 114 (List._∷_ 117 (List._∷_ 108 (List._∷_ 101 (List._∷_ 115 (List._∷_ 58 (List._∷_ 58 (List._∷_ 79 (List._∷_ 117 (List._∷_ 116 (List._∷_ 99 (List._∷_ 111 (List._∷_ 109 (List._∷_ 101 List.[])))))))))))))) (Syntax.ttcons Syntax.tnil (Syntax.ttcons (Syntax.tcons (Syntax.tyInt Syntax.w16) Syntax.tnil) (Syntax.ttcons (Syntax.tcons (Syntax.tyInt Syntax.w16) Syntax.tnil) Syntax.ttnil)))) (Syntax.tcons (Syntax.tyInt Syntax.w64) (Syntax.tcons (Syntax.tyInt Syntax.w64) Syntax.tnil))))) (List._∷_ (1, Rows.sslice (Referent.rtF (Referent.fInt Syntax.w8)) (Syntax.tyRef (Syntax.named 0) Syntax.imm (Syntax.tyInt Syntax.w8)) 0) (List._∷_ (2, Rows.sc-here (Row.sInt Syntax.w64)) (List._∷_ (3, Rows.sc-here Row.sBool) (List._∷_ (4, Mut.mslice (Referent.rtF (Referent.fInt Syntax.w64)) (Syntax.tyRef (Syntax.named 1) Syntax.mut (Syntax.tyInt Syntax.w64)) 1) (List._∷_ (5, Rows.mref-owed Lent.R (Syntax.tyRef (Syntax.named 2) Syntax.mut Lent.refS) 2 5 (Row.lease (κs .1 .1 .0) (qs .1 .1 .0))) (List._∷_ (6, Rows.sc-here Row.sBool) (List._∷_ (7, Rows.any-gone (Syntax.tyStruct (List._∷_ 112 (List._∷_ 111 (List._∷_ 115 (List._∷_ 105 (List._∷_ 116 (List._∷_ 105 (List._∷_ 111 (List._∷_ 110 (List._∷_ 58 (List._∷_ 58 (List._∷_ 80 (List._∷_ 111 (List._∷_ 115 (List._∷_ 105 (List._∷_ 116 (List._∷_ 105 (List._∷_ 111 (List._∷_ 110 (List._∷_ 83 (List._∷_ 121 (List._∷_ 110 (List._∷_ 116 (List._∷_ 97 (List._∷_ 120 List.[])))))))))))))))))))))))) (Syntax.tcons Syntax.tyBool (Syntax.tcons Syntax.tyBool (Syntax.tcons (Syntax.tyInt Syntax.w64) (Syntax.tcons (Syntax.tyInt Syntax.w64) (Syntax.tcons (Syntax.tyInt Syntax.w64) (Syntax.tcons Syntax.tyBool Syntax.tnil)))))))) (List._∷_ (8, Rows.any-gone (Syntax.tyStruct (List._∷_ 112 (List._∷_ 111 (List._∷_ 115 (List._∷_ 105 (List._∷_ 116 (List._∷_ 105 (List._∷_ 111 (List._∷_ 110 (List._∷_ 95 (List._∷_ 97 (List._∷_ 108 (List._∷_ 111 (List._∷_ 110 (List._∷_ 101 (List._∷_ 58 (List._∷_ 58 (List._∷_ 80 (List._∷_ 111 (List._∷_ 115 (List._∷_ 105 (List._∷_ 116 (List._∷_ 105 (List._∷_ 111 (List._∷_ 110 (List._∷_ 65 (List._∷_ 110 (List._∷_ 115 (List._∷_ 119 (List._∷_ 101 (List._∷_ 114 List.[])))))))))))))))))))))))))))))) (Syntax.tcons (Syntax.tyStruct (List._∷_ 114 (List._∷_ 117 (List._∷_ 108 (List._∷_ 101 (List._∷_ 115 (List._∷_ 58 (List._∷_ 58 (List._∷_ 65 (List._∷_ 110 (List._∷_ 115 (List._∷_ 119 (List._∷_ 101 (List._∷_ 114 List.[]))))))))))))) (Syntax.tcons (Syntax.tyEnum (List._∷_ 114 (List._∷_ 117 (List._∷_ 108 (List._∷_ 101 (List._∷_ 115 (List._∷_ 58 (List._∷_ 58 (List._∷_ 79 (List._∷_ 117 (List._∷_ 116 (List._∷_ 99 (List._∷_ 111 (List._∷_ 109 (List._∷_ 101 List.[])))))))))))))) (Syntax.ttcons Syntax.tnil (Syntax.ttcons (Syntax.tcons (Syntax.tyInt Syntax.w16) Syntax.tnil) (Syntax.ttcons (Syntax.tcons (Syntax.tyInt Syntax.w16) Syntax.tnil) Syntax.ttnil)))) (Syntax.tcons (Syntax.tyInt Syntax.w64) (Syntax.tcons (Syntax.tyInt Syntax.w64) Syntax.tnil)))) (Syntax.tcons (Syntax.tyStruct (List._∷_ 112 (List._∷_ 111 (List._∷_ 115 (List._∷_ 105 (List._∷_ 116 (List._∷_ 105 (List._∷_ 111 (List._∷_ 110 (List._∷_ 58 (List._∷_ 58 (List._∷_ 80 (List._∷_ 111 (List._∷_ 115 (List._∷_ 105 (List._∷_ 116 (List._∷_ 105 (List._∷_ 111 (List._∷_ 110 (List._∷_ 83 (List._∷_ 121 (List._∷_ 110 (List._∷_ 116 (List._∷_ 97 (List._∷_ 120 List.[])))))))))))))))))))))))) (Syntax.tcons Syntax.tyBool (Syntax.tcons Syntax.tyBool (Syntax.tcons (Syntax.tyInt Syntax.w64) (Syntax.tcons (Syntax.tyInt Syntax.w64) (Syntax.tcons (Syntax.tyInt Syntax.w64) (Syntax.tcons Syntax.tyBool Syntax.tnil))))))) Syntax.tnil)))) (List._∷_ (9, Rows.whole (Declared'.row Answer.the-type)) (List._∷_ (10, Rows.any-gone (Syntax.tyEnum (List._∷_ 114 (List._∷_ 117 (List._∷_ 108 (List._∷_ 101 (List._∷_ 115 (List._∷_ 58 (List._∷_ 58 (List._∷_ 79 (List._∷_ 117 (List._∷_ 116 (List._∷_ 99 (List._∷_ 111 (List._∷_ 109 (List._∷_ 101 List.[])))))))))))))) (Syntax.ttcons Syntax.tnil (Syntax.ttcons (Syntax.tcons (Syntax.tyInt Syntax.w16) Syntax.tnil) (Syntax.ttcons (Syntax.tcons (Syntax.tyInt Syntax.w16) Syntax.tnil) Syntax.ttnil))))) (List._∷_ (11, Rows.any-gone (Syntax.tyStruct (List._∷_ 112 (List._∷_ 111 (List._∷_ 115 (List._∷_ 105 (List._∷_ 116 (List._∷_ 105 (List._∷_ 111 (List._∷_ 110 (List._∷_ 58 (List._∷_ 58 (List._∷_ 80 (List._∷_ 111 (List._∷_ 115 (List._∷_ 105 (List._∷_ 116 (List._∷_ 105 (List._∷_ 111 (List._∷_ 110 (List._∷_ 83 (List._∷_ 121 (List._∷_ 110 (List._∷_ 116 (List._∷_ 97 (List._∷_ 120 List.[])))))))))))))))))))))))) (Syntax.tcons Syntax.tyBool (Syntax.tcons Syntax.tyBool (Syntax.tcons (Syntax.tyInt Syntax.w64) (Syntax.tcons (Syntax.tyInt Syntax.w64) (Syntax.tcons (Syntax.tyInt Syntax.w64) (Syntax.tcons Syntax.tyBool Syntax.tnil)))))))) (List._∷_ (12, Rows.any-gone (Syntax.tyRef Syntax.erased Syntax.imm Lent.refS)) (List._∷_ (13, Rows.any-gone (Syntax.tyRef Syntax.erased Syntax.mut (Syntax.tyInt Syntax.w64))) (List._∷_ (14, Rows.any-gone (Syntax.tyStruct (List._∷_ 38 (List._∷_ 91 (List._∷_ 93 List.[]))) (Syntax.tcons (Syntax.tyRef Syntax.erased Syntax.mut (Syntax.tyInt Syntax.w64)) (Syntax.tcons (Syntax.tyInt Syntax.w64) Syntax.tnil)))) (List._∷_ (15, Rows.any-gone Syntax.tyBool) List.[])))))))))))))))
 
         abbrev G0 : Row.Cx
         G0 = record { locals = List._++_ t0 t1; slots = List._∷_ (Row.lease (κs .0) (qs .0)) (List._∷_ (Row.lease (κs .1 .0) (qs .1 .0)) (List._∷_ (Row.lease (κs .1 .1 .0) (qs .1 .1 .0)) (List._∷_ Row.off (List._∷_ Row.off (List._∷_ Row.off List.[]))))) }
@@ -787,7 +787,7 @@ module _ (claims· : Claims) where
           E = Frame.EnvOf 𝓤 H (List._∷_ (Kinds.tyR r) (Enter.tysP ps xs)) bs
 
           d0 : Typed.Typed 𝓤 H A 𝓣 E G29 b10 Δ1 (at0 bs)
-          d0 = Typed.s-typed 𝓤 H A W 𝓣 E G29 b10 Δ1 (λ Ψ. Typed.both (s27 bs) (Typed.pass T30 T31 (s28 bs) (Typed.pass T31 T32 (s29 bs) (Typed.ask (s31 bs) Ψ)))) tt (Typed.g-post 𝓤 H A W 𝓣 E G29 G34 G35 b10 (λ Ψ. Typed.both (s27 bs) (Typed.pass T30 T31 (s28 bs) (Typed.pass T31 T32 (s29 bs) (Typed.ask (s31 bs) Ψ)))) (λ Ψ. Ψ) (Typed.g-post 𝓤 H A W 𝓣 E G29 G33 G34 b10 (λ Ψ. Typed.both (s27 bs) (Typed.pass T30 T31 (s28 bs) (Typed.pass T31 T32 (s29 bs) Ψ))) (Typed.ask (s31 bs)) (Typed.g-post 𝓤 H A W 𝓣 E G29 G32 G33 b10 (λ Ψ. Typed.both (s27 bs) (Typed.pass T30 T31 (s28 bs) (Typed.pass T31 T32 (s29 bs) Ψ))) (λ Ψ. Ψ) (Typed.g-post 𝓤 H A W 𝓣 E G29 G31 G32 b10 (λ Ψ. Typed.both (s27 bs) (Typed.pass T30 T31 (s28 bs) Ψ)) (Typed.pass T31 T32 (s29 bs)) (Typed.g-post 𝓤 H A W 𝓣 E G29 G30 G31 b10 (Typed.both (s27 bs)) (Typed.pass T30 T31 (s28 bs)) (Plain.t-call-plain 𝓤 H A W 𝓣 1 ps·3 r·3 (claims· .6) (claims· .7) "lent::set_shape" (known .3) E (λ pos β. β) G29 (record { pos = 17; ty = Syntax.tyRef Syntax.erased Syntax.mut Lent.refS; ref = λ x. x }, (record { pos = 11; st = List.[]; d = 0; at = λ x. x }, tt)) 16 (List._∷_ 5 List.[]) (Call.sub-id 𝓤 H A W (G29 .slots)) (Reads'.as-is 𝓤 H A (Rows.mref Lent.R (Syntax.tyRef Syntax.erased Syntax.mut Lent.refS) 5), Reads'.reads-mref 𝓤 H A W Lent.R (Syntax.tyRef Syntax.erased Syntax.mut Lent.refS) 5, Path'.refl, ((Yields.yields-copy 𝓤 H A W (λ ρ. Unit) (Declared'.row PositionSyntax.the-type) Path'.refl (Copies.cStruct PositionSyntax.the-type Laws'.the-laws Laws'.the-copy .copy 𝓤 H A W) (Rows.whole (Declared'.row PositionSyntax.the-type)) (λ x. x) (λ x. x) (λ ρ told. Local.mem-whole 𝓤 H A W (Declared'.row PositionSyntax.the-type) ρ) λ ρ told. Local.whole-mem 𝓤 H A W (Declared'.row PositionSyntax.the-type) ρ, Path'.refl), tt)) (Reads'.room-gone 𝓤 H A Syntax.tyUnit) (tt, tt) Path'.refl) (Scalar.g-room 𝓤 H A W E G30 11 (Syntax.tyStruct (List._∷_ 112 (List._∷_ 111 (List._∷_ 115 (List._∷_ 105 (List._∷_ 116 (List._∷_ 105 (List._∷_ 111 (List._∷_ 110 (List._∷_ 58 (List._∷_ 58 (List._∷_ 80 (List._∷_ 111 (List._∷_ 115 (List._∷_ 105 (List._∷_ 116 (List._∷_ 105 (List._∷_ 111 (List._∷_ 110 (List._∷_ 83 (List._∷_ 121 (List._∷_ 110 (List._∷_ 116 (List._∷_ 97 (List._∷_ 120 List.[])))))))))))))))))))))))) (Syntax.tcons Syntax.tyBool (Syntax.tcons Syntax.tyBool (Syntax.tcons (Syntax.tyInt Syntax.w64) (Syntax.tcons (Syntax.tyInt Syntax.w64) (Syntax.tcons (Syntax.tyInt Syntax.w64) (Syntax.tcons Syntax.tyBool Syntax.tnil))))))) (Local.room-whole 𝓤 H A W (Declared'.row PositionSyntax.the-type) (Syntax.tyStruct (List._∷_ 112 (List._∷_ 111 (List._∷_ 115 (List._∷_ 105 (List._∷_ 116 (List._∷_ 105 (List._∷_ 111 (List._∷_ 110 (List._∷_ 58 (List._∷_ 58 (List._∷_ 80 (List._∷_ 111 (List._∷_ 115 (List._∷_ 105 (List._∷_ 116 (List._∷_ 105 (List._∷_ 111 (List._∷_ 110 (List._∷_ 83 (List._∷_ 121 (List._∷_ 110 (List._∷_ 116 (List._∷_ 97 (List._∷_ 120 List.[])))))))))))))))))))))))) (Syntax.tcons Syntax.tyBool (Syntax.tcons Syntax.tyBool (Syntax.tcons (Syntax.tyInt Syntax.w64) (Syntax.tcons (Syntax.tyInt Syntax.w64) (Syntax.tcons (Syntax.tyInt Syntax.w64) (Syntax.tcons Syntax.tyBool Syntax.tnil))))))) Path'.refl))) (Scalar.g-room 𝓤 H A W E G31 16 Syntax.tyUnit (Scalar.room-sc 𝓤 H A W Row.sUnit))) (Lifetime.g-end 𝓤 H A W E G32 5 Path'.refl)) (Reborrow.g-back-mref 𝓤 H A W E G33 17 5 2 5 Lent.R (Syntax.tyRef (Syntax.named 2) Syntax.mut Lent.refS) (Syntax.tyRef Syntax.erased Syntax.mut Lent.refS) (Row.lease (κs .1 .1 .0) (qs .1 .1 .0)) (λ x. x) (λ x. x) (Reads'.as-is 𝓤 H A (Rows.mleft Lent.R (Syntax.tyRef Syntax.erased Syntax.mut Lent.refS))) (Reads'.as-is 𝓤 H A (Rows.mref-owed Lent.R (Syntax.tyRef (Syntax.named 2) Syntax.mut Lent.refS) 2 5 (Row.lease (κs .1 .1 .0) (qs .1 .1 .0)))) Path'.refl Path'.refl)) (Lifetime.g-forget 𝓤 H A W E G34 5 Row.dead Path'.refl))
+          d0 = Typed.s-typed 𝓤 H A W 𝓣 E G29 b10 Δ1 (λ Ψ. Typed.both (s27 bs) (Typed.pass T30 T31 (s28 bs) (Typed.pass T31 T32 (s29 bs) (Typed.ask (s31 bs) Ψ)))) tt (Typed.g-post 𝓤 H A W 𝓣 E G29 G34 G35 b10 (λ Ψ. Typed.both (s27 bs) (Typed.pass T30 T31 (s28 bs) (Typed.pass T31 T32 (s29 bs) (Typed.ask (s31 bs) Ψ)))) (λ Ψ. Ψ) (Typed.g-post 𝓤 H A W 𝓣 E G29 G33 G34 b10 (λ Ψ. Typed.both (s27 bs) (Typed.pass T30 T31 (s28 bs) (Typed.pass T31 T32 (s29 bs) Ψ))) (Typed.ask (s31 bs)) (Typed.g-post 𝓤 H A W 𝓣 E G29 G32 G33 b10 (λ Ψ. Typed.both (s27 bs) (Typed.pass T30 T31 (s28 bs) (Typed.pass T31 T32 (s29 bs) Ψ))) (λ Ψ. Ψ) (Typed.g-post 𝓤 H A W 𝓣 E G29 G31 G32 b10 (λ Ψ. Typed.both (s27 bs) (Typed.pass T30 T31 (s28 bs) Ψ)) (Typed.pass T31 T32 (s29 bs)) (Typed.g-post 𝓤 H A W 𝓣 E G29 G30 G31 b10 (Typed.both (s27 bs)) (Typed.pass T30 T31 (s28 bs)) (Plain.t-call-plain 𝓤 H A W 𝓣 1 ps·3 r·3 (claims· .6) (claims· .7) "lent::set_shape" (known .3) E (λ pos β. β) G29 (record { pos = 17; ty = Syntax.tyRef Syntax.erased Syntax.mut Lent.refS; ref = λ x. x }, (record { pos = 11; st = List.[]; d = 0; at = λ x. x }, tt)) 16 (List._∷_ 5 List.[]) (Call.sub-id 𝓤 H A W (G29 .slots)) (Reads'.as-is 𝓤 H A (Rows.mref Lent.R (Syntax.tyRef Syntax.erased Syntax.mut Lent.refS) 5), Reads'.reads-mref 𝓤 H A W Lent.R (Syntax.tyRef Syntax.erased Syntax.mut Lent.refS) 5, Path'.refl, ((Yields.yields-copy 𝓤 H A W (λ ρ. Unit) (Declared'.row PositionSyntax.the-type) Path'.refl (Copies.cStruct PositionSyntax.the-type Laws.the-laws Laws.the-copy .copy 𝓤 H A W) (Rows.whole (Declared'.row PositionSyntax.the-type)) (λ x. x) (λ x. x) (λ ρ told. Local.mem-whole 𝓤 H A W (Declared'.row PositionSyntax.the-type) ρ) λ ρ told. Local.whole-mem 𝓤 H A W (Declared'.row PositionSyntax.the-type) ρ, Path'.refl), tt)) (Reads'.room-gone 𝓤 H A Syntax.tyUnit) (tt, tt) Path'.refl) (Scalar.g-room 𝓤 H A W E G30 11 (Syntax.tyStruct (List._∷_ 112 (List._∷_ 111 (List._∷_ 115 (List._∷_ 105 (List._∷_ 116 (List._∷_ 105 (List._∷_ 111 (List._∷_ 110 (List._∷_ 58 (List._∷_ 58 (List._∷_ 80 (List._∷_ 111 (List._∷_ 115 (List._∷_ 105 (List._∷_ 116 (List._∷_ 105 (List._∷_ 111 (List._∷_ 110 (List._∷_ 83 (List._∷_ 121 (List._∷_ 110 (List._∷_ 116 (List._∷_ 97 (List._∷_ 120 List.[])))))))))))))))))))))))) (Syntax.tcons Syntax.tyBool (Syntax.tcons Syntax.tyBool (Syntax.tcons (Syntax.tyInt Syntax.w64) (Syntax.tcons (Syntax.tyInt Syntax.w64) (Syntax.tcons (Syntax.tyInt Syntax.w64) (Syntax.tcons Syntax.tyBool Syntax.tnil))))))) (Local.room-whole 𝓤 H A W (Declared'.row PositionSyntax.the-type) (Syntax.tyStruct (List._∷_ 112 (List._∷_ 111 (List._∷_ 115 (List._∷_ 105 (List._∷_ 116 (List._∷_ 105 (List._∷_ 111 (List._∷_ 110 (List._∷_ 58 (List._∷_ 58 (List._∷_ 80 (List._∷_ 111 (List._∷_ 115 (List._∷_ 105 (List._∷_ 116 (List._∷_ 105 (List._∷_ 111 (List._∷_ 110 (List._∷_ 83 (List._∷_ 121 (List._∷_ 110 (List._∷_ 116 (List._∷_ 97 (List._∷_ 120 List.[])))))))))))))))))))))))) (Syntax.tcons Syntax.tyBool (Syntax.tcons Syntax.tyBool (Syntax.tcons (Syntax.tyInt Syntax.w64) (Syntax.tcons (Syntax.tyInt Syntax.w64) (Syntax.tcons (Syntax.tyInt Syntax.w64) (Syntax.tcons Syntax.tyBool Syntax.tnil))))))) Path'.refl))) (Scalar.g-room 𝓤 H A W E G31 16 Syntax.tyUnit (Scalar.room-sc 𝓤 H A W Row.sUnit))) (Lifetime.g-end 𝓤 H A W E G32 5 Path'.refl)) (Reborrow.g-back-mref 𝓤 H A W E G33 17 5 2 5 Lent.R (Syntax.tyRef (Syntax.named 2) Syntax.mut Lent.refS) (Syntax.tyRef Syntax.erased Syntax.mut Lent.refS) (Row.lease (κs .1 .1 .0) (qs .1 .1 .0)) (λ x. x) (λ x. x) (Reads'.as-is 𝓤 H A (Rows.mleft Lent.R (Syntax.tyRef Syntax.erased Syntax.mut Lent.refS))) (Reads'.as-is 𝓤 H A (Rows.mref-owed Lent.R (Syntax.tyRef (Syntax.named 2) Syntax.mut Lent.refS) 2 5 (Row.lease (κs .1 .1 .0) (qs .1 .1 .0)))) Path'.refl Path'.refl)) (Lifetime.g-forget 𝓤 H A W E G34 5 Row.dead Path'.refl))
 
           d1 : Typed.Typed 𝓤 H A 𝓣 E G28 b11 Δ1 (at1 bs)
           d1 = Typed.s-seq 𝓤 H A W 𝓣 E G28 G29 b9 b10 Δ1 (Typed.give (s26 bs)) (at0 bs) (Reborrow.t-mref-relend 𝓤 H A W E 𝓣 G28 5 17 2 5 Lent.R Lent.mirS (Syntax.tyRef (Syntax.named 2) Syntax.mut Lent.refS) (Syntax.tyRef Syntax.erased Syntax.mut Lent.refS) (Row.lease (κs .1 .1 .0) (qs .1 .1 .0)) (λ x. x) (Reads'.as-is 𝓤 H A (Rows.mref Lent.R (Syntax.tyRef (Syntax.named 2) Syntax.mut Lent.refS) 2)) (Reads'.room-gone 𝓤 H A (Syntax.tyRef Syntax.erased Syntax.mut Lent.refS)) Path'.refl tt Path'.refl Path'.refl λ b o. tt) d0
@@ -796,10 +796,10 @@ module _ (claims· : Claims) where
           d2 = Typed.g-pre 𝓤 H A W 𝓣 E G27 G28 b11 Δ1 (λ Ψ. Ψ) (at1 bs) (Lifetime.g-begin 𝓤 H A W E G27 5 (tt, (tt, (tt, (tt, (tt, (tt, (tt, (tt, (tt, (tt, (tt, (tt, (tt, (tt, (tt, (tt, (tt, (tt, tt))))))))))))))))))) d1
 
           d3 : Typed.Typed 𝓤 H A 𝓣 E G26 b11 Δ1 (at3 bs)
-          d3 = Typed.g-pre 𝓤 H A W 𝓣 E G26 G27 b11 Δ1 (Typed.pass T26 T27 (s24 bs)) (at2 bs) (Scalar.g-room 𝓤 H A W E G26 8 (Syntax.tyStruct (List._∷_ 112 (List._∷_ 111 (List._∷_ 115 (List._∷_ 105 (List._∷_ 116 (List._∷_ 105 (List._∷_ 111 (List._∷_ 110 (List._∷_ 58 (List._∷_ 58 (List._∷_ 80 (List._∷_ 111 (List._∷_ 115 (List._∷_ 105 (List._∷_ 116 (List._∷_ 105 (List._∷_ 111 (List._∷_ 110 (List._∷_ 65 (List._∷_ 110 (List._∷_ 115 (List._∷_ 119 (List._∷_ 101 (List._∷_ 114 List.[])))))))))))))))))))))))) (Syntax.tcons (Syntax.tyStruct (List._∷_ 114 (List._∷_ 117 (List._∷_ 108 (List._∷_ 101 (List._∷_ 115 (List._∷_ 58 (List._∷_ 58 (List._∷_ 65 (List._∷_ 110 (List._∷_ 115 (List._∷_ 119 (List._∷_ 101 (List._∷_ 114 List.[]))))))))))))) (Syntax.tcons (Syntax.tyEnum (List._∷_ 114 (List._∷_ 117 (List._∷_ 108 (List._∷_ 101 (List._∷_ 115 (List._∷_ 58 (List._∷_ 58 (List._∷_ 79 (List._∷_ 117 (List._∷_ 116 (List._∷_ 99 (List._∷_ 111 (List._∷_ 109 (List._∷_ 101 List.[])))))))))))))) (Syntax.ttcons Syntax.tnil (Syntax.ttcons (Syntax.tcons (Syntax.tyInt Syntax.w16) Syntax.tnil) (Syntax.ttcons (Syntax.tcons (Syntax.tyInt Syntax.w16) Syntax.tnil) Syntax.ttnil)))) (Syntax.tcons (Syntax.tyInt Syntax.w64) (Syntax.tcons (Syntax.tyInt Syntax.w64) Syntax.tnil)))) (Syntax.tcons (Syntax.tyStruct (List._∷_ 112 (List._∷_ 111 (List._∷_ 115 (List._∷_ 105 (List._∷_ 116 (List._∷_ 105 (List._∷_ 111 (List._∷_ 110 (List._∷_ 58 (List._∷_ 58 (List._∷_ 80 (List._∷_ 111 (List._∷_ 115 (List._∷_ 105 (List._∷_ 116 (List._∷_ 105 (List._∷_ 111 (List._∷_ 110 (List._∷_ 83 (List._∷_ 121 (List._∷_ 110 (List._∷_ 116 (List._∷_ 97 (List._∷_ 120 List.[])))))))))))))))))))))))) (Syntax.tcons Syntax.tyBool (Syntax.tcons Syntax.tyBool (Syntax.tcons (Syntax.tyInt Syntax.w64) (Syntax.tcons (Syntax.tyInt Syntax.w64) (Syntax.tcons (Syntax.tyInt Syntax.w64) (Syntax.tcons Syntax.tyBool Syntax.tnil))))))) Syntax.tnil))) (Local.room-whole 𝓤 H A W (Declared'.row PositionAnswer.the-type) (Syntax.tyStruct (List._∷_ 112 (List._∷_ 111 (List._∷_ 115 (List._∷_ 105 (List._∷_ 116 (List._∷_ 105 (List._∷_ 111 (List._∷_ 110 (List._∷_ 58 (List._∷_ 58 (List._∷_ 80 (List._∷_ 111 (List._∷_ 115 (List._∷_ 105 (List._∷_ 116 (List._∷_ 105 (List._∷_ 111 (List._∷_ 110 (List._∷_ 65 (List._∷_ 110 (List._∷_ 115 (List._∷_ 119 (List._∷_ 101 (List._∷_ 114 List.[])))))))))))))))))))))))) (Syntax.tcons (Syntax.tyStruct (List._∷_ 114 (List._∷_ 117 (List._∷_ 108 (List._∷_ 101 (List._∷_ 115 (List._∷_ 58 (List._∷_ 58 (List._∷_ 65 (List._∷_ 110 (List._∷_ 115 (List._∷_ 119 (List._∷_ 101 (List._∷_ 114 List.[]))))))))))))) (Syntax.tcons (Syntax.tyEnum (List._∷_ 114 (List._∷_ 117 (List._∷_ 108 (List._∷_ 101 (List._∷_ 115 (List._∷_ 58 (List._∷_ 58 (List._∷_ 79 (List._∷_ 117 (List._∷_ 116 (List._∷_ 99 (List._∷_ 111 (List._∷_ 109 (List._∷_ 101 List.[])))))))))))))) (Syntax.ttcons Syntax.tnil (Syntax.ttcons (Syntax.tcons (Syntax.tyInt Syntax.w16) Syntax.tnil) (Syntax.ttcons (Syntax.tcons (Syntax.tyInt Syntax.w16) Syntax.tnil) Syntax.ttnil)))) (Syntax.tcons (Syntax.tyInt Syntax.w64) (Syntax.tcons (Syntax.tyInt Syntax.w64) Syntax.tnil)))) (Syntax.tcons (Syntax.tyStruct (List._∷_ 112 (List._∷_ 111 (List._∷_ 115 (List._∷_ 105 (List._∷_ 116 (List._∷_ 105 (List._∷_ 111 (List._∷_ 110 (List._∷_ 58 (List._∷_ 58 (List._∷_ 80 (List._∷_ 111 (List._∷_ 115 (List._∷_ 105 (List._∷_ 116 (List._∷_ 105 (List._∷_ 111 (List._∷_ 110 (List._∷_ 83 (List._∷_ 121 (List._∷_ 110 (List._∷_ 116 (List._∷_ 97 (List._∷_ 120 List.[])))))))))))))))))))))))) (Syntax.tcons Syntax.tyBool (Syntax.tcons Syntax.tyBool (Syntax.tcons (Syntax.tyInt Syntax.w64) (Syntax.tcons (Syntax.tyInt Syntax.w64) (Syntax.tcons (Syntax.tyInt Syntax.w64) (Syntax.tcons Syntax.tyBool Syntax.tnil))))))) Syntax.tnil))) Path'.refl)) d2
+          d3 = Typed.g-pre 𝓤 H A W 𝓣 E G26 G27 b11 Δ1 (Typed.pass T26 T27 (s24 bs)) (at2 bs) (Scalar.g-room 𝓤 H A W E G26 8 (Syntax.tyStruct (List._∷_ 112 (List._∷_ 111 (List._∷_ 115 (List._∷_ 105 (List._∷_ 116 (List._∷_ 105 (List._∷_ 111 (List._∷_ 110 (List._∷_ 95 (List._∷_ 97 (List._∷_ 108 (List._∷_ 111 (List._∷_ 110 (List._∷_ 101 (List._∷_ 58 (List._∷_ 58 (List._∷_ 80 (List._∷_ 111 (List._∷_ 115 (List._∷_ 105 (List._∷_ 116 (List._∷_ 105 (List._∷_ 111 (List._∷_ 110 (List._∷_ 65 (List._∷_ 110 (List._∷_ 115 (List._∷_ 119 (List._∷_ 101 (List._∷_ 114 List.[])))))))))))))))))))))))))))))) (Syntax.tcons (Syntax.tyStruct (List._∷_ 114 (List._∷_ 117 (List._∷_ 108 (List._∷_ 101 (List._∷_ 115 (List._∷_ 58 (List._∷_ 58 (List._∷_ 65 (List._∷_ 110 (List._∷_ 115 (List._∷_ 119 (List._∷_ 101 (List._∷_ 114 List.[]))))))))))))) (Syntax.tcons (Syntax.tyEnum (List._∷_ 114 (List._∷_ 117 (List._∷_ 108 (List._∷_ 101 (List._∷_ 115 (List._∷_ 58 (List._∷_ 58 (List._∷_ 79 (List._∷_ 117 (List._∷_ 116 (List._∷_ 99 (List._∷_ 111 (List._∷_ 109 (List._∷_ 101 List.[])))))))))))))) (Syntax.ttcons Syntax.tnil (Syntax.ttcons (Syntax.tcons (Syntax.tyInt Syntax.w16) Syntax.tnil) (Syntax.ttcons (Syntax.tcons (Syntax.tyInt Syntax.w16) Syntax.tnil) Syntax.ttnil)))) (Syntax.tcons (Syntax.tyInt Syntax.w64) (Syntax.tcons (Syntax.tyInt Syntax.w64) Syntax.tnil)))) (Syntax.tcons (Syntax.tyStruct (List._∷_ 112 (List._∷_ 111 (List._∷_ 115 (List._∷_ 105 (List._∷_ 116 (List._∷_ 105 (List._∷_ 111 (List._∷_ 110 (List._∷_ 58 (List._∷_ 58 (List._∷_ 80 (List._∷_ 111 (List._∷_ 115 (List._∷_ 105 (List._∷_ 116 (List._∷_ 105 (List._∷_ 111 (List._∷_ 110 (List._∷_ 83 (List._∷_ 121 (List._∷_ 110 (List._∷_ 116 (List._∷_ 97 (List._∷_ 120 List.[])))))))))))))))))))))))) (Syntax.tcons Syntax.tyBool (Syntax.tcons Syntax.tyBool (Syntax.tcons (Syntax.tyInt Syntax.w64) (Syntax.tcons (Syntax.tyInt Syntax.w64) (Syntax.tcons (Syntax.tyInt Syntax.w64) (Syntax.tcons Syntax.tyBool Syntax.tnil))))))) Syntax.tnil))) (Local.room-whole 𝓤 H A W (Declared'.row PositionAnswer.the-type) (Syntax.tyStruct (List._∷_ 112 (List._∷_ 111 (List._∷_ 115 (List._∷_ 105 (List._∷_ 116 (List._∷_ 105 (List._∷_ 111 (List._∷_ 110 (List._∷_ 95 (List._∷_ 97 (List._∷_ 108 (List._∷_ 111 (List._∷_ 110 (List._∷_ 101 (List._∷_ 58 (List._∷_ 58 (List._∷_ 80 (List._∷_ 111 (List._∷_ 115 (List._∷_ 105 (List._∷_ 116 (List._∷_ 105 (List._∷_ 111 (List._∷_ 110 (List._∷_ 65 (List._∷_ 110 (List._∷_ 115 (List._∷_ 119 (List._∷_ 101 (List._∷_ 114 List.[])))))))))))))))))))))))))))))) (Syntax.tcons (Syntax.tyStruct (List._∷_ 114 (List._∷_ 117 (List._∷_ 108 (List._∷_ 101 (List._∷_ 115 (List._∷_ 58 (List._∷_ 58 (List._∷_ 65 (List._∷_ 110 (List._∷_ 115 (List._∷_ 119 (List._∷_ 101 (List._∷_ 114 List.[]))))))))))))) (Syntax.tcons (Syntax.tyEnum (List._∷_ 114 (List._∷_ 117 (List._∷_ 108 (List._∷_ 101 (List._∷_ 115 (List._∷_ 58 (List._∷_ 58 (List._∷_ 79 (List._∷_ 117 (List._∷_ 116 (List._∷_ 99 (List._∷_ 111 (List._∷_ 109 (List._∷_ 101 List.[])))))))))))))) (Syntax.ttcons Syntax.tnil (Syntax.ttcons (Syntax.tcons (Syntax.tyInt Syntax.w16) Syntax.tnil) (Syntax.ttcons (Syntax.tcons (Syntax.tyInt Syntax.w16) Syntax.tnil) Syntax.ttnil)))) (Syntax.tcons (Syntax.tyInt Syntax.w64) (Syntax.tcons (Syntax.tyInt Syntax.w64) Syntax.tnil)))) (Syntax.tcons (Syntax.tyStruct (List._∷_ 112 (List._∷_ 111 (List._∷_ 115 (List._∷_ 105 (List._∷_ 116 (List._∷_ 105 (List._∷_ 111 (List._∷_ 110 (List._∷_ 58 (List._∷_ 58 (List._∷_ 80 (List._∷_ 111 (List._∷_ 115 (List._∷_ 105 (List._∷_ 116 (List._∷_ 105 (List._∷_ 111 (List._∷_ 110 (List._∷_ 83 (List._∷_ 121 (List._∷_ 110 (List._∷_ 116 (List._∷_ 97 (List._∷_ 120 List.[])))))))))))))))))))))))) (Syntax.tcons Syntax.tyBool (Syntax.tcons Syntax.tyBool (Syntax.tcons (Syntax.tyInt Syntax.w64) (Syntax.tcons (Syntax.tyInt Syntax.w64) (Syntax.tcons (Syntax.tyInt Syntax.w64) (Syntax.tcons Syntax.tyBool Syntax.tnil))))))) Syntax.tnil))) Path'.refl)) d2
 
           d4 : Typed.Typed 𝓤 H A 𝓣 E G25 b12 Δ1 (at4 bs)
-          d4 = Typed.s-seq 𝓤 H A W 𝓣 E G25 G26 b8 b11 Δ1 (Typed.both (s23 bs)) (at3 bs) (WayStmt.t-way-copy-out 𝓤 H A W E 𝓣 (Declared'.row PositionSyntax.the-type) Path'.refl (Copies.cStruct PositionSyntax.the-type Laws'.the-laws Laws'.the-copy .copy 𝓤 H A W) (λ ρ. Unit) G25 (Row.out 8 (G25 .locals)) (λ u. Row.drop 8 (G25 .locals) u) (G25 .slots) 8 (λ t. List._∷_ (Syntax.field 1) t) (Syntax.tyStruct (List._∷_ 112 (List._∷_ 111 (List._∷_ 115 (List._∷_ 105 (List._∷_ 116 (List._∷_ 105 (List._∷_ 111 (List._∷_ 110 (List._∷_ 58 (List._∷_ 58 (List._∷_ 80 (List._∷_ 111 (List._∷_ 115 (List._∷_ 105 (List._∷_ 116 (List._∷_ 105 (List._∷_ 111 (List._∷_ 110 (List._∷_ 83 (List._∷_ 121 (List._∷_ 110 (List._∷_ 116 (List._∷_ 97 (List._∷_ 120 List.[])))))))))))))))))))))))) (Syntax.tcons Syntax.tyBool (Syntax.tcons Syntax.tyBool (Syntax.tcons (Syntax.tyInt Syntax.w64) (Syntax.tcons (Syntax.tyInt Syntax.w64) (Syntax.tcons (Syntax.tyInt Syntax.w64) (Syntax.tcons Syntax.tyBool Syntax.tnil))))))) (Syntax.tyStruct (List._∷_ 112 (List._∷_ 111 (List._∷_ 115 (List._∷_ 105 (List._∷_ 116 (List._∷_ 105 (List._∷_ 111 (List._∷_ 110 (List._∷_ 58 (List._∷_ 58 (List._∷_ 80 (List._∷_ 111 (List._∷_ 115 (List._∷_ 105 (List._∷_ 116 (List._∷_ 105 (List._∷_ 111 (List._∷_ 110 (List._∷_ 83 (List._∷_ 121 (List._∷_ 110 (List._∷_ 116 (List._∷_ 97 (List._∷_ 120 List.[])))))))))))))))))))))))) (Syntax.tcons Syntax.tyBool (Syntax.tcons Syntax.tyBool (Syntax.tcons (Syntax.tyInt Syntax.w64) (Syntax.tcons (Syntax.tyInt Syntax.w64) (Syntax.tcons (Syntax.tyInt Syntax.w64) (Syntax.tcons Syntax.tyBool Syntax.tnil))))))) 11 (Rows.whole (Declared'.row PositionSyntax.the-type)) (λ x. x) (λ u. At.getAt (PositionAnswer.the-type .parts) 1 (PositionAnswer.struct .as-values (u .1 .1 .1 .1 .1 .1 .1 .1 .0))) (λ u. (Row.hd 0 (Row.tl (Row.tl (Row.tl (Row.tl (Row.tl (Row.tl (Row.tl (Row.tl bs)))))))), Nat._+_ 0 24)) (λ T′. record { locals = Row.setRow 8 (8, Rows.whole (Declared'.row PositionAnswer.the-type)) T′; slots = G25 .slots }) (λ u T′ m′. Row.set 8 (8, Rows.whole (Declared'.row PositionAnswer.the-type)) (u .1 .1 .1 .1 .1 .1 .1 .1 .0) T′ m′) (λ u. Unit) (λ x. Unit) (Own.told-none 𝓤 H A (G25 .slots)) (DerefMove.learns-nothing 𝓤 H A (Declared'.row PositionSyntax.the-type)) (λ ρ told u asked. Way'.w-partˢ 𝓤 H A W E (Declared'.row PositionAnswer.the-type) (Declared'.row PositionSyntax.the-type) (Syntax.tyStruct (List._∷_ 112 (List._∷_ 111 (List._∷_ 115 (List._∷_ 105 (List._∷_ 116 (List._∷_ 105 (List._∷_ 111 (List._∷_ 110 (List._∷_ 58 (List._∷_ 58 (List._∷_ 80 (List._∷_ 111 (List._∷_ 115 (List._∷_ 105 (List._∷_ 116 (List._∷_ 105 (List._∷_ 111 (List._∷_ 110 (List._∷_ 65 (List._∷_ 110 (List._∷_ 115 (List._∷_ 119 (List._∷_ 101 (List._∷_ 114 List.[])))))))))))))))))))))))) (Syntax.tcons (Syntax.tyStruct (List._∷_ 114 (List._∷_ 117 (List._∷_ 108 (List._∷_ 101 (List._∷_ 115 (List._∷_ 58 (List._∷_ 58 (List._∷_ 65 (List._∷_ 110 (List._∷_ 115 (List._∷_ 119 (List._∷_ 101 (List._∷_ 114 List.[]))))))))))))) (Syntax.tcons (Syntax.tyEnum (List._∷_ 114 (List._∷_ 117 (List._∷_ 108 (List._∷_ 101 (List._∷_ 115 (List._∷_ 58 (List._∷_ 58 (List._∷_ 79 (List._∷_ 117 (List._∷_ 116 (List._∷_ 99 (List._∷_ 111 (List._∷_ 109 (List._∷_ 101 List.[])))))))))))))) (Syntax.ttcons Syntax.tnil (Syntax.ttcons (Syntax.tcons (Syntax.tyInt Syntax.w16) Syntax.tnil) (Syntax.ttcons (Syntax.tcons (Syntax.tyInt Syntax.w16) Syntax.tnil) Syntax.ttnil)))) (Syntax.tcons (Syntax.tyInt Syntax.w64) (Syntax.tcons (Syntax.tyInt Syntax.w64) Syntax.tnil)))) (Syntax.tcons (Syntax.tyStruct (List._∷_ 112 (List._∷_ 111 (List._∷_ 115 (List._∷_ 105 (List._∷_ 116 (List._∷_ 105 (List._∷_ 111 (List._∷_ 110 (List._∷_ 58 (List._∷_ 58 (List._∷_ 80 (List._∷_ 111 (List._∷_ 115 (List._∷_ 105 (List._∷_ 116 (List._∷_ 105 (List._∷_ 111 (List._∷_ 110 (List._∷_ 83 (List._∷_ 121 (List._∷_ 110 (List._∷_ 116 (List._∷_ 97 (List._∷_ 120 List.[])))))))))))))))))))))))) (Syntax.tcons Syntax.tyBool (Syntax.tcons Syntax.tyBool (Syntax.tcons (Syntax.tyInt Syntax.w64) (Syntax.tcons (Syntax.tyInt Syntax.w64) (Syntax.tcons (Syntax.tyInt Syntax.w64) (Syntax.tcons Syntax.tyBool Syntax.tnil))))))) Syntax.tnil))) (Syntax.tyStruct (List._∷_ 112 (List._∷_ 111 (List._∷_ 115 (List._∷_ 105 (List._∷_ 116 (List._∷_ 105 (List._∷_ 111 (List._∷_ 110 (List._∷_ 58 (List._∷_ 58 (List._∷_ 80 (List._∷_ 111 (List._∷_ 115 (List._∷_ 105 (List._∷_ 116 (List._∷_ 105 (List._∷_ 111 (List._∷_ 110 (List._∷_ 83 (List._∷_ 121 (List._∷_ 110 (List._∷_ 116 (List._∷_ 97 (List._∷_ 120 List.[])))))))))))))))))))))))) (Syntax.tcons Syntax.tyBool (Syntax.tcons Syntax.tyBool (Syntax.tcons (Syntax.tyInt Syntax.w64) (Syntax.tcons (Syntax.tyInt Syntax.w64) (Syntax.tcons (Syntax.tyInt Syntax.w64) (Syntax.tcons Syntax.tyBool Syntax.tnil))))))) 1 24 (u .1 .1 .1 .1 .1 .1 .1 .1 .0) (At.getAt (PositionAnswer.the-type .parts) 1 (PositionAnswer.struct .as-values (u .1 .1 .1 .1 .1 .1 .1 .1 .0))) (Row.hd 0 (Row.tl (Row.tl (Row.tl (Row.tl (Row.tl (Row.tl (Row.tl (Row.tl bs)))))))), 0) (Way.w-look 𝓤 H A W E (Way.w-local 𝓤 H A W E G25 ρ u (G25 .slots) 8 (Declared'.row PositionAnswer.the-type) (Rows.whole (Declared'.row PositionAnswer.the-type)) (λ x. x) (λ x. x) (u .1 .1 .1 .1 .1 .1 .1 .1 .0) (Local.mem-whole 𝓤 H A W (Declared'.row PositionAnswer.the-type) ρ (u .1 .1 .1 .1 .1 .1 .1 .1 .0) (Row.hd 0 (Row.tl (Row.tl (Row.tl (Row.tl (Row.tl (Row.tl (Row.tl (Row.tl bs)))))))))) (Local.whole-mem 𝓤 H A W (Declared'.row PositionAnswer.the-type) ρ (u .1 .1 .1 .1 .1 .1 .1 .1 .0) (Row.hd 0 (Row.tl (Row.tl (Row.tl (Row.tl (Row.tl (Row.tl (Row.tl (Row.tl bs)))))))))))) Path'.refl λ q. Inner.cut-record 𝓤 H A q (Declared'.row PositionAnswer.the-type) PositionSyntax.the-type 24 (u .1 .1 .1 .1 .1 .1 .1 .1 .0) (u .1 .1 .1 .1 .1 .1 .1 .1 .0) (At.getAt (PositionAnswer.the-type .parts) 1 (PositionAnswer.struct .as-values (u .1 .1 .1 .1 .1 .1 .1 .1 .0))) (At.getAt (PositionAnswer.the-type .parts) 1 (PositionAnswer.struct .as-values (u .1 .1 .1 .1 .1 .1 .1 .1 .0))) (Row.hd 0 (Row.tl (Row.tl (Row.tl (Row.tl (Row.tl (Row.tl (Row.tl (Row.tl bs)))))))), 0) (Behind.look-at 𝓤 H A W q PositionAnswer.the-type Laws.the-laws 1 24 Path'.refl Path'.refl (Row.hd 0 (Row.tl (Row.tl (Row.tl (Row.tl (Row.tl (Row.tl (Row.tl (Row.tl bs)))))))), 0) (u .1 .1 .1 .1 .1 .1 .1 .1 .0) (PositionAnswer.struct .as-values (u .1 .1 .1 .1 .1 .1 .1 .1 .0)) Path'.refl)) (Reads'.room-gone 𝓤 H A (Syntax.tyStruct (List._∷_ 112 (List._∷_ 111 (List._∷_ 115 (List._∷_ 105 (List._∷_ 116 (List._∷_ 105 (List._∷_ 111 (List._∷_ 110 (List._∷_ 58 (List._∷_ 58 (List._∷_ 80 (List._∷_ 111 (List._∷_ 115 (List._∷_ 105 (List._∷_ 116 (List._∷_ 105 (List._∷_ 111 (List._∷_ 110 (List._∷_ 83 (List._∷_ 121 (List._∷_ 110 (List._∷_ 116 (List._∷_ 97 (List._∷_ 120 List.[])))))))))))))))))))))))) (Syntax.tcons Syntax.tyBool (Syntax.tcons Syntax.tyBool (Syntax.tcons (Syntax.tyInt Syntax.w64) (Syntax.tcons (Syntax.tyInt Syntax.w64) (Syntax.tcons (Syntax.tyInt Syntax.w64) (Syntax.tcons Syntax.tyBool Syntax.tnil)))))))) (Yields.makes-mem 𝓤 H A W (λ ρ. Unit) (Declared'.row PositionSyntax.the-type) Path'.refl (Rows.whole (Declared'.row PositionSyntax.the-type)) (λ x. x) λ ρ told. Local.whole-mem 𝓤 H A W (Declared'.row PositionSyntax.the-type) ρ) Path'.refl Path'.refl Path'.refl) d3
+          d4 = Typed.s-seq 𝓤 H A W 𝓣 E G25 G26 b8 b11 Δ1 (Typed.both (s23 bs)) (at3 bs) (WayStmt.t-way-copy-out 𝓤 H A W E 𝓣 (Declared'.row PositionSyntax.the-type) Path'.refl (Copies.cStruct PositionSyntax.the-type Laws.the-laws Laws.the-copy .copy 𝓤 H A W) (λ ρ. Unit) G25 (Row.out 8 (G25 .locals)) (λ u. Row.drop 8 (G25 .locals) u) (G25 .slots) 8 (λ t. List._∷_ (Syntax.field 1) t) (Syntax.tyStruct (List._∷_ 112 (List._∷_ 111 (List._∷_ 115 (List._∷_ 105 (List._∷_ 116 (List._∷_ 105 (List._∷_ 111 (List._∷_ 110 (List._∷_ 58 (List._∷_ 58 (List._∷_ 80 (List._∷_ 111 (List._∷_ 115 (List._∷_ 105 (List._∷_ 116 (List._∷_ 105 (List._∷_ 111 (List._∷_ 110 (List._∷_ 83 (List._∷_ 121 (List._∷_ 110 (List._∷_ 116 (List._∷_ 97 (List._∷_ 120 List.[])))))))))))))))))))))))) (Syntax.tcons Syntax.tyBool (Syntax.tcons Syntax.tyBool (Syntax.tcons (Syntax.tyInt Syntax.w64) (Syntax.tcons (Syntax.tyInt Syntax.w64) (Syntax.tcons (Syntax.tyInt Syntax.w64) (Syntax.tcons Syntax.tyBool Syntax.tnil))))))) (Syntax.tyStruct (List._∷_ 112 (List._∷_ 111 (List._∷_ 115 (List._∷_ 105 (List._∷_ 116 (List._∷_ 105 (List._∷_ 111 (List._∷_ 110 (List._∷_ 58 (List._∷_ 58 (List._∷_ 80 (List._∷_ 111 (List._∷_ 115 (List._∷_ 105 (List._∷_ 116 (List._∷_ 105 (List._∷_ 111 (List._∷_ 110 (List._∷_ 83 (List._∷_ 121 (List._∷_ 110 (List._∷_ 116 (List._∷_ 97 (List._∷_ 120 List.[])))))))))))))))))))))))) (Syntax.tcons Syntax.tyBool (Syntax.tcons Syntax.tyBool (Syntax.tcons (Syntax.tyInt Syntax.w64) (Syntax.tcons (Syntax.tyInt Syntax.w64) (Syntax.tcons (Syntax.tyInt Syntax.w64) (Syntax.tcons Syntax.tyBool Syntax.tnil))))))) 11 (Rows.whole (Declared'.row PositionSyntax.the-type)) (λ x. x) (λ u. At.getAt (PositionAnswer.the-type .parts) 1 (PositionAnswer.struct .as-values (u .1 .1 .1 .1 .1 .1 .1 .1 .0))) (λ u. (Row.hd 0 (Row.tl (Row.tl (Row.tl (Row.tl (Row.tl (Row.tl (Row.tl (Row.tl bs)))))))), Nat._+_ 0 24)) (λ T′. record { locals = Row.setRow 8 (8, Rows.whole (Declared'.row PositionAnswer.the-type)) T′; slots = G25 .slots }) (λ u T′ m′. Row.set 8 (8, Rows.whole (Declared'.row PositionAnswer.the-type)) (u .1 .1 .1 .1 .1 .1 .1 .1 .0) T′ m′) (λ u. Unit) (λ x. Unit) (Own.told-none 𝓤 H A (G25 .slots)) (DerefMove.learns-nothing 𝓤 H A (Declared'.row PositionSyntax.the-type)) (λ ρ told u asked. Way'.w-partˢ 𝓤 H A W E (Declared'.row PositionAnswer.the-type) (Declared'.row PositionSyntax.the-type) (Syntax.tyStruct (List._∷_ 112 (List._∷_ 111 (List._∷_ 115 (List._∷_ 105 (List._∷_ 116 (List._∷_ 105 (List._∷_ 111 (List._∷_ 110 (List._∷_ 95 (List._∷_ 97 (List._∷_ 108 (List._∷_ 111 (List._∷_ 110 (List._∷_ 101 (List._∷_ 58 (List._∷_ 58 (List._∷_ 80 (List._∷_ 111 (List._∷_ 115 (List._∷_ 105 (List._∷_ 116 (List._∷_ 105 (List._∷_ 111 (List._∷_ 110 (List._∷_ 65 (List._∷_ 110 (List._∷_ 115 (List._∷_ 119 (List._∷_ 101 (List._∷_ 114 List.[])))))))))))))))))))))))))))))) (Syntax.tcons (Syntax.tyStruct (List._∷_ 114 (List._∷_ 117 (List._∷_ 108 (List._∷_ 101 (List._∷_ 115 (List._∷_ 58 (List._∷_ 58 (List._∷_ 65 (List._∷_ 110 (List._∷_ 115 (List._∷_ 119 (List._∷_ 101 (List._∷_ 114 List.[]))))))))))))) (Syntax.tcons (Syntax.tyEnum (List._∷_ 114 (List._∷_ 117 (List._∷_ 108 (List._∷_ 101 (List._∷_ 115 (List._∷_ 58 (List._∷_ 58 (List._∷_ 79 (List._∷_ 117 (List._∷_ 116 (List._∷_ 99 (List._∷_ 111 (List._∷_ 109 (List._∷_ 101 List.[])))))))))))))) (Syntax.ttcons Syntax.tnil (Syntax.ttcons (Syntax.tcons (Syntax.tyInt Syntax.w16) Syntax.tnil) (Syntax.ttcons (Syntax.tcons (Syntax.tyInt Syntax.w16) Syntax.tnil) Syntax.ttnil)))) (Syntax.tcons (Syntax.tyInt Syntax.w64) (Syntax.tcons (Syntax.tyInt Syntax.w64) Syntax.tnil)))) (Syntax.tcons (Syntax.tyStruct (List._∷_ 112 (List._∷_ 111 (List._∷_ 115 (List._∷_ 105 (List._∷_ 116 (List._∷_ 105 (List._∷_ 111 (List._∷_ 110 (List._∷_ 58 (List._∷_ 58 (List._∷_ 80 (List._∷_ 111 (List._∷_ 115 (List._∷_ 105 (List._∷_ 116 (List._∷_ 105 (List._∷_ 111 (List._∷_ 110 (List._∷_ 83 (List._∷_ 121 (List._∷_ 110 (List._∷_ 116 (List._∷_ 97 (List._∷_ 120 List.[])))))))))))))))))))))))) (Syntax.tcons Syntax.tyBool (Syntax.tcons Syntax.tyBool (Syntax.tcons (Syntax.tyInt Syntax.w64) (Syntax.tcons (Syntax.tyInt Syntax.w64) (Syntax.tcons (Syntax.tyInt Syntax.w64) (Syntax.tcons Syntax.tyBool Syntax.tnil))))))) Syntax.tnil))) (Syntax.tyStruct (List._∷_ 112 (List._∷_ 111 (List._∷_ 115 (List._∷_ 105 (List._∷_ 116 (List._∷_ 105 (List._∷_ 111 (List._∷_ 110 (List._∷_ 58 (List._∷_ 58 (List._∷_ 80 (List._∷_ 111 (List._∷_ 115 (List._∷_ 105 (List._∷_ 116 (List._∷_ 105 (List._∷_ 111 (List._∷_ 110 (List._∷_ 83 (List._∷_ 121 (List._∷_ 110 (List._∷_ 116 (List._∷_ 97 (List._∷_ 120 List.[])))))))))))))))))))))))) (Syntax.tcons Syntax.tyBool (Syntax.tcons Syntax.tyBool (Syntax.tcons (Syntax.tyInt Syntax.w64) (Syntax.tcons (Syntax.tyInt Syntax.w64) (Syntax.tcons (Syntax.tyInt Syntax.w64) (Syntax.tcons Syntax.tyBool Syntax.tnil))))))) 1 24 (u .1 .1 .1 .1 .1 .1 .1 .1 .0) (At.getAt (PositionAnswer.the-type .parts) 1 (PositionAnswer.struct .as-values (u .1 .1 .1 .1 .1 .1 .1 .1 .0))) (Row.hd 0 (Row.tl (Row.tl (Row.tl (Row.tl (Row.tl (Row.tl (Row.tl (Row.tl bs)))))))), 0) (Way.w-look 𝓤 H A W E (Way.w-local 𝓤 H A W E G25 ρ u (G25 .slots) 8 (Declared'.row PositionAnswer.the-type) (Rows.whole (Declared'.row PositionAnswer.the-type)) (λ x. x) (λ x. x) (u .1 .1 .1 .1 .1 .1 .1 .1 .0) (Local.mem-whole 𝓤 H A W (Declared'.row PositionAnswer.the-type) ρ (u .1 .1 .1 .1 .1 .1 .1 .1 .0) (Row.hd 0 (Row.tl (Row.tl (Row.tl (Row.tl (Row.tl (Row.tl (Row.tl (Row.tl bs)))))))))) (Local.whole-mem 𝓤 H A W (Declared'.row PositionAnswer.the-type) ρ (u .1 .1 .1 .1 .1 .1 .1 .1 .0) (Row.hd 0 (Row.tl (Row.tl (Row.tl (Row.tl (Row.tl (Row.tl (Row.tl (Row.tl bs)))))))))))) Path'.refl λ q. Inner.cut-record 𝓤 H A q (Declared'.row PositionAnswer.the-type) PositionSyntax.the-type 24 (u .1 .1 .1 .1 .1 .1 .1 .1 .0) (u .1 .1 .1 .1 .1 .1 .1 .1 .0) (At.getAt (PositionAnswer.the-type .parts) 1 (PositionAnswer.struct .as-values (u .1 .1 .1 .1 .1 .1 .1 .1 .0))) (At.getAt (PositionAnswer.the-type .parts) 1 (PositionAnswer.struct .as-values (u .1 .1 .1 .1 .1 .1 .1 .1 .0))) (Row.hd 0 (Row.tl (Row.tl (Row.tl (Row.tl (Row.tl (Row.tl (Row.tl (Row.tl bs)))))))), 0) (Behind.look-at 𝓤 H A W q PositionAnswer.the-type Laws'.the-laws 1 24 Path'.refl Path'.refl (Row.hd 0 (Row.tl (Row.tl (Row.tl (Row.tl (Row.tl (Row.tl (Row.tl (Row.tl bs)))))))), 0) (u .1 .1 .1 .1 .1 .1 .1 .1 .0) (PositionAnswer.struct .as-values (u .1 .1 .1 .1 .1 .1 .1 .1 .0)) Path'.refl)) (Reads'.room-gone 𝓤 H A (Syntax.tyStruct (List._∷_ 112 (List._∷_ 111 (List._∷_ 115 (List._∷_ 105 (List._∷_ 116 (List._∷_ 105 (List._∷_ 111 (List._∷_ 110 (List._∷_ 58 (List._∷_ 58 (List._∷_ 80 (List._∷_ 111 (List._∷_ 115 (List._∷_ 105 (List._∷_ 116 (List._∷_ 105 (List._∷_ 111 (List._∷_ 110 (List._∷_ 83 (List._∷_ 121 (List._∷_ 110 (List._∷_ 116 (List._∷_ 97 (List._∷_ 120 List.[])))))))))))))))))))))))) (Syntax.tcons Syntax.tyBool (Syntax.tcons Syntax.tyBool (Syntax.tcons (Syntax.tyInt Syntax.w64) (Syntax.tcons (Syntax.tyInt Syntax.w64) (Syntax.tcons (Syntax.tyInt Syntax.w64) (Syntax.tcons Syntax.tyBool Syntax.tnil)))))))) (Yields.makes-mem 𝓤 H A W (λ ρ. Unit) (Declared'.row PositionSyntax.the-type) Path'.refl (Rows.whole (Declared'.row PositionSyntax.the-type)) (λ x. x) λ ρ told. Local.whole-mem 𝓤 H A W (Declared'.row PositionSyntax.the-type) ρ) Path'.refl Path'.refl Path'.refl) d3
 
           d5 : Typed.Typed 𝓤 H A 𝓣 E G24 b12 Δ1 (at5 bs)
           d5 = Typed.g-pre 𝓤 H A W 𝓣 E G24 G25 b12 Δ1 (Typed.pass T24 T25 (s22 bs)) (at4 bs) (Scalar.g-room 𝓤 H A W E G24 15 Syntax.tyBool (Scalar.room-sc 𝓤 H A W Row.sBool)) d4
@@ -811,7 +811,7 @@ module _ (claims· : Claims) where
           d7 = Typed.g-pre 𝓤 H A W 𝓣 E G36 G37 b13 Δ1 (Typed.pass T36 T37 (s34 bs)) (at6 bs) (Scalar.g-room 𝓤 H A W E G36 15 Syntax.tyBool (Scalar.room-sc 𝓤 H A W Row.sBool)) d6
 
           d8 : Typed.Typed 𝓤 H A 𝓣 E G24 b13 Δ1 (at8 bs)
-          d8 = Typed.g-pre 𝓤 H A W 𝓣 E G24 G36 b13 Δ1 (Typed.pass T24 T36 (s33 bs)) (at7 bs) (Scalar.g-room 𝓤 H A W E G24 8 (Syntax.tyStruct (List._∷_ 112 (List._∷_ 111 (List._∷_ 115 (List._∷_ 105 (List._∷_ 116 (List._∷_ 105 (List._∷_ 111 (List._∷_ 110 (List._∷_ 58 (List._∷_ 58 (List._∷_ 80 (List._∷_ 111 (List._∷_ 115 (List._∷_ 105 (List._∷_ 116 (List._∷_ 105 (List._∷_ 111 (List._∷_ 110 (List._∷_ 65 (List._∷_ 110 (List._∷_ 115 (List._∷_ 119 (List._∷_ 101 (List._∷_ 114 List.[])))))))))))))))))))))))) (Syntax.tcons (Syntax.tyStruct (List._∷_ 114 (List._∷_ 117 (List._∷_ 108 (List._∷_ 101 (List._∷_ 115 (List._∷_ 58 (List._∷_ 58 (List._∷_ 65 (List._∷_ 110 (List._∷_ 115 (List._∷_ 119 (List._∷_ 101 (List._∷_ 114 List.[]))))))))))))) (Syntax.tcons (Syntax.tyEnum (List._∷_ 114 (List._∷_ 117 (List._∷_ 108 (List._∷_ 101 (List._∷_ 115 (List._∷_ 58 (List._∷_ 58 (List._∷_ 79 (List._∷_ 117 (List._∷_ 116 (List._∷_ 99 (List._∷_ 111 (List._∷_ 109 (List._∷_ 101 List.[])))))))))))))) (Syntax.ttcons Syntax.tnil (Syntax.ttcons (Syntax.tcons (Syntax.tyInt Syntax.w16) Syntax.tnil) (Syntax.ttcons (Syntax.tcons (Syntax.tyInt Syntax.w16) Syntax.tnil) Syntax.ttnil)))) (Syntax.tcons (Syntax.tyInt Syntax.w64) (Syntax.tcons (Syntax.tyInt Syntax.w64) Syntax.tnil)))) (Syntax.tcons (Syntax.tyStruct (List._∷_ 112 (List._∷_ 111 (List._∷_ 115 (List._∷_ 105 (List._∷_ 116 (List._∷_ 105 (List._∷_ 111 (List._∷_ 110 (List._∷_ 58 (List._∷_ 58 (List._∷_ 80 (List._∷_ 111 (List._∷_ 115 (List._∷_ 105 (List._∷_ 116 (List._∷_ 105 (List._∷_ 111 (List._∷_ 110 (List._∷_ 83 (List._∷_ 121 (List._∷_ 110 (List._∷_ 116 (List._∷_ 97 (List._∷_ 120 List.[])))))))))))))))))))))))) (Syntax.tcons Syntax.tyBool (Syntax.tcons Syntax.tyBool (Syntax.tcons (Syntax.tyInt Syntax.w64) (Syntax.tcons (Syntax.tyInt Syntax.w64) (Syntax.tcons (Syntax.tyInt Syntax.w64) (Syntax.tcons Syntax.tyBool Syntax.tnil))))))) Syntax.tnil))) (Local.room-whole 𝓤 H A W (Declared'.row PositionAnswer.the-type) (Syntax.tyStruct (List._∷_ 112 (List._∷_ 111 (List._∷_ 115 (List._∷_ 105 (List._∷_ 116 (List._∷_ 105 (List._∷_ 111 (List._∷_ 110 (List._∷_ 58 (List._∷_ 58 (List._∷_ 80 (List._∷_ 111 (List._∷_ 115 (List._∷_ 105 (List._∷_ 116 (List._∷_ 105 (List._∷_ 111 (List._∷_ 110 (List._∷_ 65 (List._∷_ 110 (List._∷_ 115 (List._∷_ 119 (List._∷_ 101 (List._∷_ 114 List.[])))))))))))))))))))))))) (Syntax.tcons (Syntax.tyStruct (List._∷_ 114 (List._∷_ 117 (List._∷_ 108 (List._∷_ 101 (List._∷_ 115 (List._∷_ 58 (List._∷_ 58 (List._∷_ 65 (List._∷_ 110 (List._∷_ 115 (List._∷_ 119 (List._∷_ 101 (List._∷_ 114 List.[]))))))))))))) (Syntax.tcons (Syntax.tyEnum (List._∷_ 114 (List._∷_ 117 (List._∷_ 108 (List._∷_ 101 (List._∷_ 115 (List._∷_ 58 (List._∷_ 58 (List._∷_ 79 (List._∷_ 117 (List._∷_ 116 (List._∷_ 99 (List._∷_ 111 (List._∷_ 109 (List._∷_ 101 List.[])))))))))))))) (Syntax.ttcons Syntax.tnil (Syntax.ttcons (Syntax.tcons (Syntax.tyInt Syntax.w16) Syntax.tnil) (Syntax.ttcons (Syntax.tcons (Syntax.tyInt Syntax.w16) Syntax.tnil) Syntax.ttnil)))) (Syntax.tcons (Syntax.tyInt Syntax.w64) (Syntax.tcons (Syntax.tyInt Syntax.w64) Syntax.tnil)))) (Syntax.tcons (Syntax.tyStruct (List._∷_ 112 (List._∷_ 111 (List._∷_ 115 (List._∷_ 105 (List._∷_ 116 (List._∷_ 105 (List._∷_ 111 (List._∷_ 110 (List._∷_ 58 (List._∷_ 58 (List._∷_ 80 (List._∷_ 111 (List._∷_ 115 (List._∷_ 105 (List._∷_ 116 (List._∷_ 105 (List._∷_ 111 (List._∷_ 110 (List._∷_ 83 (List._∷_ 121 (List._∷_ 110 (List._∷_ 116 (List._∷_ 97 (List._∷_ 120 List.[])))))))))))))))))))))))) (Syntax.tcons Syntax.tyBool (Syntax.tcons Syntax.tyBool (Syntax.tcons (Syntax.tyInt Syntax.w64) (Syntax.tcons (Syntax.tyInt Syntax.w64) (Syntax.tcons (Syntax.tyInt Syntax.w64) (Syntax.tcons Syntax.tyBool Syntax.tnil))))))) Syntax.tnil))) Path'.refl)) d7
+          d8 = Typed.g-pre 𝓤 H A W 𝓣 E G24 G36 b13 Δ1 (Typed.pass T24 T36 (s33 bs)) (at7 bs) (Scalar.g-room 𝓤 H A W E G24 8 (Syntax.tyStruct (List._∷_ 112 (List._∷_ 111 (List._∷_ 115 (List._∷_ 105 (List._∷_ 116 (List._∷_ 105 (List._∷_ 111 (List._∷_ 110 (List._∷_ 95 (List._∷_ 97 (List._∷_ 108 (List._∷_ 111 (List._∷_ 110 (List._∷_ 101 (List._∷_ 58 (List._∷_ 58 (List._∷_ 80 (List._∷_ 111 (List._∷_ 115 (List._∷_ 105 (List._∷_ 116 (List._∷_ 105 (List._∷_ 111 (List._∷_ 110 (List._∷_ 65 (List._∷_ 110 (List._∷_ 115 (List._∷_ 119 (List._∷_ 101 (List._∷_ 114 List.[])))))))))))))))))))))))))))))) (Syntax.tcons (Syntax.tyStruct (List._∷_ 114 (List._∷_ 117 (List._∷_ 108 (List._∷_ 101 (List._∷_ 115 (List._∷_ 58 (List._∷_ 58 (List._∷_ 65 (List._∷_ 110 (List._∷_ 115 (List._∷_ 119 (List._∷_ 101 (List._∷_ 114 List.[]))))))))))))) (Syntax.tcons (Syntax.tyEnum (List._∷_ 114 (List._∷_ 117 (List._∷_ 108 (List._∷_ 101 (List._∷_ 115 (List._∷_ 58 (List._∷_ 58 (List._∷_ 79 (List._∷_ 117 (List._∷_ 116 (List._∷_ 99 (List._∷_ 111 (List._∷_ 109 (List._∷_ 101 List.[])))))))))))))) (Syntax.ttcons Syntax.tnil (Syntax.ttcons (Syntax.tcons (Syntax.tyInt Syntax.w16) Syntax.tnil) (Syntax.ttcons (Syntax.tcons (Syntax.tyInt Syntax.w16) Syntax.tnil) Syntax.ttnil)))) (Syntax.tcons (Syntax.tyInt Syntax.w64) (Syntax.tcons (Syntax.tyInt Syntax.w64) Syntax.tnil)))) (Syntax.tcons (Syntax.tyStruct (List._∷_ 112 (List._∷_ 111 (List._∷_ 115 (List._∷_ 105 (List._∷_ 116 (List._∷_ 105 (List._∷_ 111 (List._∷_ 110 (List._∷_ 58 (List._∷_ 58 (List._∷_ 80 (List._∷_ 111 (List._∷_ 115 (List._∷_ 105 (List._∷_ 116 (List._∷_ 105 (List._∷_ 111 (List._∷_ 110 (List._∷_ 83 (List._∷_ 121 (List._∷_ 110 (List._∷_ 116 (List._∷_ 97 (List._∷_ 120 List.[])))))))))))))))))))))))) (Syntax.tcons Syntax.tyBool (Syntax.tcons Syntax.tyBool (Syntax.tcons (Syntax.tyInt Syntax.w64) (Syntax.tcons (Syntax.tyInt Syntax.w64) (Syntax.tcons (Syntax.tyInt Syntax.w64) (Syntax.tcons Syntax.tyBool Syntax.tnil))))))) Syntax.tnil))) (Local.room-whole 𝓤 H A W (Declared'.row PositionAnswer.the-type) (Syntax.tyStruct (List._∷_ 112 (List._∷_ 111 (List._∷_ 115 (List._∷_ 105 (List._∷_ 116 (List._∷_ 105 (List._∷_ 111 (List._∷_ 110 (List._∷_ 95 (List._∷_ 97 (List._∷_ 108 (List._∷_ 111 (List._∷_ 110 (List._∷_ 101 (List._∷_ 58 (List._∷_ 58 (List._∷_ 80 (List._∷_ 111 (List._∷_ 115 (List._∷_ 105 (List._∷_ 116 (List._∷_ 105 (List._∷_ 111 (List._∷_ 110 (List._∷_ 65 (List._∷_ 110 (List._∷_ 115 (List._∷_ 119 (List._∷_ 101 (List._∷_ 114 List.[])))))))))))))))))))))))))))))) (Syntax.tcons (Syntax.tyStruct (List._∷_ 114 (List._∷_ 117 (List._∷_ 108 (List._∷_ 101 (List._∷_ 115 (List._∷_ 58 (List._∷_ 58 (List._∷_ 65 (List._∷_ 110 (List._∷_ 115 (List._∷_ 119 (List._∷_ 101 (List._∷_ 114 List.[]))))))))))))) (Syntax.tcons (Syntax.tyEnum (List._∷_ 114 (List._∷_ 117 (List._∷_ 108 (List._∷_ 101 (List._∷_ 115 (List._∷_ 58 (List._∷_ 58 (List._∷_ 79 (List._∷_ 117 (List._∷_ 116 (List._∷_ 99 (List._∷_ 111 (List._∷_ 109 (List._∷_ 101 List.[])))))))))))))) (Syntax.ttcons Syntax.tnil (Syntax.ttcons (Syntax.tcons (Syntax.tyInt Syntax.w16) Syntax.tnil) (Syntax.ttcons (Syntax.tcons (Syntax.tyInt Syntax.w16) Syntax.tnil) Syntax.ttnil)))) (Syntax.tcons (Syntax.tyInt Syntax.w64) (Syntax.tcons (Syntax.tyInt Syntax.w64) Syntax.tnil)))) (Syntax.tcons (Syntax.tyStruct (List._∷_ 112 (List._∷_ 111 (List._∷_ 115 (List._∷_ 105 (List._∷_ 116 (List._∷_ 105 (List._∷_ 111 (List._∷_ 110 (List._∷_ 58 (List._∷_ 58 (List._∷_ 80 (List._∷_ 111 (List._∷_ 115 (List._∷_ 105 (List._∷_ 116 (List._∷_ 105 (List._∷_ 111 (List._∷_ 110 (List._∷_ 83 (List._∷_ 121 (List._∷_ 110 (List._∷_ 116 (List._∷_ 97 (List._∷_ 120 List.[])))))))))))))))))))))))) (Syntax.tcons Syntax.tyBool (Syntax.tcons Syntax.tyBool (Syntax.tcons (Syntax.tyInt Syntax.w64) (Syntax.tcons (Syntax.tyInt Syntax.w64) (Syntax.tcons (Syntax.tyInt Syntax.w64) (Syntax.tcons Syntax.tyBool Syntax.tnil))))))) Syntax.tnil))) Path'.refl)) d7
 
           d9 : Typed.Typed 𝓤 H A 𝓣 E G24 b14 Δ1 (at9 bs)
           d9 = Scalar.t-cond 𝓤 H A W E 𝓣 G24 15 (λ x. x) b12 b13 Δ1 (at5 bs) (at8 bs) (Scalar.reads-sc 𝓤 H A W Row.sBool) Path'.refl d5 d8
@@ -847,7 +847,7 @@ module _ (claims· : Claims) where
           d19 = Typed.s-seq 𝓤 H A W 𝓣 E G20 G21 b6 b19 Δ0 (Typed.pass T20 T21 (s19 bs)) (at18 bs) (CopyOut.t-copy-told 𝓤 H A W E 𝓣 (Declared.row Outcome.the-type) Path'.refl (Laws'4.val Outcome.the-type Laws'3.the-laws) (Laws'4.lawful Outcome.the-type Laws'3.the-laws 𝓤 H A W tt) (Laws'4.makes Outcome.the-type Laws'3.the-plain 𝓤 H A) G20 10 (Scalar.oFld 9 (List._∷_ (Syntax.field 0) List.[]) (Syntax.tyEnum (List._∷_ 114 (List._∷_ 117 (List._∷_ 108 (List._∷_ 101 (List._∷_ 115 (List._∷_ 58 (List._∷_ 58 (List._∷_ 79 (List._∷_ 117 (List._∷_ 116 (List._∷_ 99 (List._∷_ 111 (List._∷_ 109 (List._∷_ 101 List.[])))))))))))))) (Syntax.ttcons Syntax.tnil (Syntax.ttcons (Syntax.tcons (Syntax.tyInt Syntax.w16) Syntax.tnil) (Syntax.ttcons (Syntax.tcons (Syntax.tyInt Syntax.w16) Syntax.tnil) Syntax.ttnil)))) 0 λ x. Laws'4.val Outcome.the-type Laws'3.the-laws (Answer.struct .as-values x .0)) (λ m. Answer.struct .as-values (m .1 .1 .1 .1 .1 .1 .1 .1 .1 .0) .0) (λ m. Laws'5.Is (Declared'.row Answer.the-type) (m .1 .1 .1 .1 .1 .1 .1 .1 .1 .0) (Laws'6.vals Answer.the-type Laws''.the-laws (m .1 .1 .1 .1 .1 .1 .1 .1 .1 .0))) (Reads'.room-gone 𝓤 H A (Syntax.tyEnum (List._∷_ 114 (List._∷_ 117 (List._∷_ 108 (List._∷_ 101 (List._∷_ 115 (List._∷_ 58 (List._∷_ 58 (List._∷_ 79 (List._∷_ 117 (List._∷_ 116 (List._∷_ 99 (List._∷_ 111 (List._∷_ 109 (List._∷_ 101 List.[])))))))))))))) (Syntax.ttcons Syntax.tnil (Syntax.ttcons (Syntax.tcons (Syntax.tyInt Syntax.w16) Syntax.tnil) (Syntax.ttcons (Syntax.tcons (Syntax.tyInt Syntax.w16) Syntax.tnil) Syntax.ttnil))))) (Reads.reads-field 𝓤 H A W Answer.the-type Laws''.the-laws 0 (Syntax.tyEnum (List._∷_ 114 (List._∷_ 117 (List._∷_ 108 (List._∷_ 101 (List._∷_ 115 (List._∷_ 58 (List._∷_ 58 (List._∷_ 79 (List._∷_ 117 (List._∷_ 116 (List._∷_ 99 (List._∷_ 111 (List._∷_ 109 (List._∷_ 101 List.[])))))))))))))) (Syntax.ttcons Syntax.tnil (Syntax.ttcons (Syntax.tcons (Syntax.tyInt Syntax.w16) Syntax.tnil) (Syntax.ttcons (Syntax.tcons (Syntax.tyInt Syntax.w16) Syntax.tnil) Syntax.ttnil)))) 0 Path'.refl, Path'.refl) Path'.refl (λ ρ m. Make.tells-row 𝓤 H A W E ρ (Row.out 10 (G20 .locals)) m 9 (Laws'5.Is (Declared'.row Answer.the-type) (m .1 .1 .1 .1 .1 .1 .1 .1 .1 .0) (Laws'6.vals Answer.the-type Laws''.the-laws (m .1 .1 .1 .1 .1 .1 .1 .1 .1 .0))) (Make.whole-is 𝓤 H A W E (Declared'.row Answer.the-type) Path'.refl (Laws'6.val Answer.the-type Laws''.the-laws) (Laws'6.tells Answer.the-type Laws''.the-laws) ρ 9 (m .1 .1 .1 .1 .1 .1 .1 .1 .1 .0))) (λ m k wa. Path'.refl) λ m k wa. Laws'6.owed Answer.the-type Laws''.the-laws (m .1 .1 .1 .1 .1 .1 .1 .1 .1 .0) (Laws'6.vals Answer.the-type Laws''.the-laws (m .1 .1 .1 .1 .1 .1 .1 .1 .1 .0)) k .0) d18
 
           d20 : Typed.Typed 𝓤 H A 𝓣 E G19 b21 Δ0 (at20 bs)
-          d20 = Typed.s-seq 𝓤 H A W 𝓣 E G19 G20 b5 b20 Δ0 (Typed.both (s18 bs)) (at19 bs) (WayStmt.t-way-copy-out 𝓤 H A W E 𝓣 (Declared'.row Answer.the-type) Path'.refl (Copies.cStruct Answer.the-type Laws''.the-laws Laws''.the-copy .copy 𝓤 H A W) (λ ρ. Unit) G19 (Row.out 8 (G19 .locals)) (λ u. Row.drop 8 (G19 .locals) u) (G19 .slots) 8 (λ t. List._∷_ (Syntax.field 0) t) (Syntax.tyStruct (List._∷_ 114 (List._∷_ 117 (List._∷_ 108 (List._∷_ 101 (List._∷_ 115 (List._∷_ 58 (List._∷_ 58 (List._∷_ 65 (List._∷_ 110 (List._∷_ 115 (List._∷_ 119 (List._∷_ 101 (List._∷_ 114 List.[]))))))))))))) (Syntax.tcons (Syntax.tyEnum (List._∷_ 114 (List._∷_ 117 (List._∷_ 108 (List._∷_ 101 (List._∷_ 115 (List._∷_ 58 (List._∷_ 58 (List._∷_ 79 (List._∷_ 117 (List._∷_ 116 (List._∷_ 99 (List._∷_ 111 (List._∷_ 109 (List._∷_ 101 List.[])))))))))))))) (Syntax.ttcons Syntax.tnil (Syntax.ttcons (Syntax.tcons (Syntax.tyInt Syntax.w16) Syntax.tnil) (Syntax.ttcons (Syntax.tcons (Syntax.tyInt Syntax.w16) Syntax.tnil) Syntax.ttnil)))) (Syntax.tcons (Syntax.tyInt Syntax.w64) (Syntax.tcons (Syntax.tyInt Syntax.w64) Syntax.tnil)))) (Syntax.tyStruct (List._∷_ 114 (List._∷_ 117 (List._∷_ 108 (List._∷_ 101 (List._∷_ 115 (List._∷_ 58 (List._∷_ 58 (List._∷_ 65 (List._∷_ 110 (List._∷_ 115 (List._∷_ 119 (List._∷_ 101 (List._∷_ 114 List.[]))))))))))))) (Syntax.tcons (Syntax.tyEnum (List._∷_ 114 (List._∷_ 117 (List._∷_ 108 (List._∷_ 101 (List._∷_ 115 (List._∷_ 58 (List._∷_ 58 (List._∷_ 79 (List._∷_ 117 (List._∷_ 116 (List._∷_ 99 (List._∷_ 111 (List._∷_ 109 (List._∷_ 101 List.[])))))))))))))) (Syntax.ttcons Syntax.tnil (Syntax.ttcons (Syntax.tcons (Syntax.tyInt Syntax.w16) Syntax.tnil) (Syntax.ttcons (Syntax.tcons (Syntax.tyInt Syntax.w16) Syntax.tnil) Syntax.ttnil)))) (Syntax.tcons (Syntax.tyInt Syntax.w64) (Syntax.tcons (Syntax.tyInt Syntax.w64) Syntax.tnil)))) 9 (Rows.whole (Declared'.row Answer.the-type)) (λ x. x) (λ u. At.getAt (PositionAnswer.the-type .parts) 0 (PositionAnswer.struct .as-values (u .1 .1 .1 .1 .1 .1 .1 .1 .0))) (λ u. (Row.hd 0 (Row.tl (Row.tl (Row.tl (Row.tl (Row.tl (Row.tl (Row.tl (Row.tl bs)))))))), Nat._+_ 0 0)) (λ T′. record { locals = Row.setRow 8 (8, Rows.whole (Declared'.row PositionAnswer.the-type)) T′; slots = G19 .slots }) (λ u T′ m′. Row.set 8 (8, Rows.whole (Declared'.row PositionAnswer.the-type)) (u .1 .1 .1 .1 .1 .1 .1 .1 .0) T′ m′) (λ u. Unit) (λ x. Unit) (Own.told-none 𝓤 H A (G19 .slots)) (DerefMove.learns-nothing 𝓤 H A (Declared'.row Answer.the-type)) (λ ρ told u asked. Way'.w-partˢ 𝓤 H A W E (Declared'.row PositionAnswer.the-type) (Declared'.row Answer.the-type) (Syntax.tyStruct (List._∷_ 112 (List._∷_ 111 (List._∷_ 115 (List._∷_ 105 (List._∷_ 116 (List._∷_ 105 (List._∷_ 111 (List._∷_ 110 (List._∷_ 58 (List._∷_ 58 (List._∷_ 80 (List._∷_ 111 (List._∷_ 115 (List._∷_ 105 (List._∷_ 116 (List._∷_ 105 (List._∷_ 111 (List._∷_ 110 (List._∷_ 65 (List._∷_ 110 (List._∷_ 115 (List._∷_ 119 (List._∷_ 101 (List._∷_ 114 List.[])))))))))))))))))))))))) (Syntax.tcons (Syntax.tyStruct (List._∷_ 114 (List._∷_ 117 (List._∷_ 108 (List._∷_ 101 (List._∷_ 115 (List._∷_ 58 (List._∷_ 58 (List._∷_ 65 (List._∷_ 110 (List._∷_ 115 (List._∷_ 119 (List._∷_ 101 (List._∷_ 114 List.[]))))))))))))) (Syntax.tcons (Syntax.tyEnum (List._∷_ 114 (List._∷_ 117 (List._∷_ 108 (List._∷_ 101 (List._∷_ 115 (List._∷_ 58 (List._∷_ 58 (List._∷_ 79 (List._∷_ 117 (List._∷_ 116 (List._∷_ 99 (List._∷_ 111 (List._∷_ 109 (List._∷_ 101 List.[])))))))))))))) (Syntax.ttcons Syntax.tnil (Syntax.ttcons (Syntax.tcons (Syntax.tyInt Syntax.w16) Syntax.tnil) (Syntax.ttcons (Syntax.tcons (Syntax.tyInt Syntax.w16) Syntax.tnil) Syntax.ttnil)))) (Syntax.tcons (Syntax.tyInt Syntax.w64) (Syntax.tcons (Syntax.tyInt Syntax.w64) Syntax.tnil)))) (Syntax.tcons (Syntax.tyStruct (List._∷_ 112 (List._∷_ 111 (List._∷_ 115 (List._∷_ 105 (List._∷_ 116 (List._∷_ 105 (List._∷_ 111 (List._∷_ 110 (List._∷_ 58 (List._∷_ 58 (List._∷_ 80 (List._∷_ 111 (List._∷_ 115 (List._∷_ 105 (List._∷_ 116 (List._∷_ 105 (List._∷_ 111 (List._∷_ 110 (List._∷_ 83 (List._∷_ 121 (List._∷_ 110 (List._∷_ 116 (List._∷_ 97 (List._∷_ 120 List.[])))))))))))))))))))))))) (Syntax.tcons Syntax.tyBool (Syntax.tcons Syntax.tyBool (Syntax.tcons (Syntax.tyInt Syntax.w64) (Syntax.tcons (Syntax.tyInt Syntax.w64) (Syntax.tcons (Syntax.tyInt Syntax.w64) (Syntax.tcons Syntax.tyBool Syntax.tnil))))))) Syntax.tnil))) (Syntax.tyStruct (List._∷_ 114 (List._∷_ 117 (List._∷_ 108 (List._∷_ 101 (List._∷_ 115 (List._∷_ 58 (List._∷_ 58 (List._∷_ 65 (List._∷_ 110 (List._∷_ 115 (List._∷_ 119 (List._∷_ 101 (List._∷_ 114 List.[]))))))))))))) (Syntax.tcons (Syntax.tyEnum (List._∷_ 114 (List._∷_ 117 (List._∷_ 108 (List._∷_ 101 (List._∷_ 115 (List._∷_ 58 (List._∷_ 58 (List._∷_ 79 (List._∷_ 117 (List._∷_ 116 (List._∷_ 99 (List._∷_ 111 (List._∷_ 109 (List._∷_ 101 List.[])))))))))))))) (Syntax.ttcons Syntax.tnil (Syntax.ttcons (Syntax.tcons (Syntax.tyInt Syntax.w16) Syntax.tnil) (Syntax.ttcons (Syntax.tcons (Syntax.tyInt Syntax.w16) Syntax.tnil) Syntax.ttnil)))) (Syntax.tcons (Syntax.tyInt Syntax.w64) (Syntax.tcons (Syntax.tyInt Syntax.w64) Syntax.tnil)))) 0 0 (u .1 .1 .1 .1 .1 .1 .1 .1 .0) (At.getAt (PositionAnswer.the-type .parts) 0 (PositionAnswer.struct .as-values (u .1 .1 .1 .1 .1 .1 .1 .1 .0))) (Row.hd 0 (Row.tl (Row.tl (Row.tl (Row.tl (Row.tl (Row.tl (Row.tl (Row.tl bs)))))))), 0) (Way.w-look 𝓤 H A W E (Way.w-local 𝓤 H A W E G19 ρ u (G19 .slots) 8 (Declared'.row PositionAnswer.the-type) (Rows.whole (Declared'.row PositionAnswer.the-type)) (λ x. x) (λ x. x) (u .1 .1 .1 .1 .1 .1 .1 .1 .0) (Local.mem-whole 𝓤 H A W (Declared'.row PositionAnswer.the-type) ρ (u .1 .1 .1 .1 .1 .1 .1 .1 .0) (Row.hd 0 (Row.tl (Row.tl (Row.tl (Row.tl (Row.tl (Row.tl (Row.tl (Row.tl bs)))))))))) (Local.whole-mem 𝓤 H A W (Declared'.row PositionAnswer.the-type) ρ (u .1 .1 .1 .1 .1 .1 .1 .1 .0) (Row.hd 0 (Row.tl (Row.tl (Row.tl (Row.tl (Row.tl (Row.tl (Row.tl (Row.tl bs)))))))))))) Path'.refl λ q. Inner.cut-record 𝓤 H A q (Declared'.row PositionAnswer.the-type) Answer.the-type 0 (u .1 .1 .1 .1 .1 .1 .1 .1 .0) (u .1 .1 .1 .1 .1 .1 .1 .1 .0) (At.getAt (PositionAnswer.the-type .parts) 0 (PositionAnswer.struct .as-values (u .1 .1 .1 .1 .1 .1 .1 .1 .0))) (At.getAt (PositionAnswer.the-type .parts) 0 (PositionAnswer.struct .as-values (u .1 .1 .1 .1 .1 .1 .1 .1 .0))) (Row.hd 0 (Row.tl (Row.tl (Row.tl (Row.tl (Row.tl (Row.tl (Row.tl (Row.tl bs)))))))), 0) (Behind.look-at 𝓤 H A W q PositionAnswer.the-type Laws.the-laws 0 0 Path'.refl Path'.refl (Row.hd 0 (Row.tl (Row.tl (Row.tl (Row.tl (Row.tl (Row.tl (Row.tl (Row.tl bs)))))))), 0) (u .1 .1 .1 .1 .1 .1 .1 .1 .0) (PositionAnswer.struct .as-values (u .1 .1 .1 .1 .1 .1 .1 .1 .0)) Path'.refl)) (Reads'.room-gone 𝓤 H A (Syntax.tyStruct (List._∷_ 114 (List._∷_ 117 (List._∷_ 108 (List._∷_ 101 (List._∷_ 115 (List._∷_ 58 (List._∷_ 58 (List._∷_ 65 (List._∷_ 110 (List._∷_ 115 (List._∷_ 119 (List._∷_ 101 (List._∷_ 114 List.[]))))))))))))) (Syntax.tcons (Syntax.tyEnum (List._∷_ 114 (List._∷_ 117 (List._∷_ 108 (List._∷_ 101 (List._∷_ 115 (List._∷_ 58 (List._∷_ 58 (List._∷_ 79 (List._∷_ 117 (List._∷_ 116 (List._∷_ 99 (List._∷_ 111 (List._∷_ 109 (List._∷_ 101 List.[])))))))))))))) (Syntax.ttcons Syntax.tnil (Syntax.ttcons (Syntax.tcons (Syntax.tyInt Syntax.w16) Syntax.tnil) (Syntax.ttcons (Syntax.tcons (Syntax.tyInt Syntax.w16) Syntax.tnil) Syntax.ttnil)))) (Syntax.tcons (Syntax.tyInt Syntax.w64) (Syntax.tcons (Syntax.tyInt Syntax.w64) Syntax.tnil))))) (Yields.makes-mem 𝓤 H A W (λ ρ. Unit) (Declared'.row Answer.the-type) Path'.refl (Rows.whole (Declared'.row Answer.the-type)) (λ x. x) λ ρ told. Local.whole-mem 𝓤 H A W (Declared'.row Answer.the-type) ρ) Path'.refl Path'.refl Path'.refl) d19
+          d20 = Typed.s-seq 𝓤 H A W 𝓣 E G19 G20 b5 b20 Δ0 (Typed.both (s18 bs)) (at19 bs) (WayStmt.t-way-copy-out 𝓤 H A W E 𝓣 (Declared'.row Answer.the-type) Path'.refl (Copies.cStruct Answer.the-type Laws''.the-laws Laws''.the-copy .copy 𝓤 H A W) (λ ρ. Unit) G19 (Row.out 8 (G19 .locals)) (λ u. Row.drop 8 (G19 .locals) u) (G19 .slots) 8 (λ t. List._∷_ (Syntax.field 0) t) (Syntax.tyStruct (List._∷_ 114 (List._∷_ 117 (List._∷_ 108 (List._∷_ 101 (List._∷_ 115 (List._∷_ 58 (List._∷_ 58 (List._∷_ 65 (List._∷_ 110 (List._∷_ 115 (List._∷_ 119 (List._∷_ 101 (List._∷_ 114 List.[]))))))))))))) (Syntax.tcons (Syntax.tyEnum (List._∷_ 114 (List._∷_ 117 (List._∷_ 108 (List._∷_ 101 (List._∷_ 115 (List._∷_ 58 (List._∷_ 58 (List._∷_ 79 (List._∷_ 117 (List._∷_ 116 (List._∷_ 99 (List._∷_ 111 (List._∷_ 109 (List._∷_ 101 List.[])))))))))))))) (Syntax.ttcons Syntax.tnil (Syntax.ttcons (Syntax.tcons (Syntax.tyInt Syntax.w16) Syntax.tnil) (Syntax.ttcons (Syntax.tcons (Syntax.tyInt Syntax.w16) Syntax.tnil) Syntax.ttnil)))) (Syntax.tcons (Syntax.tyInt Syntax.w64) (Syntax.tcons (Syntax.tyInt Syntax.w64) Syntax.tnil)))) (Syntax.tyStruct (List._∷_ 114 (List._∷_ 117 (List._∷_ 108 (List._∷_ 101 (List._∷_ 115 (List._∷_ 58 (List._∷_ 58 (List._∷_ 65 (List._∷_ 110 (List._∷_ 115 (List._∷_ 119 (List._∷_ 101 (List._∷_ 114 List.[]))))))))))))) (Syntax.tcons (Syntax.tyEnum (List._∷_ 114 (List._∷_ 117 (List._∷_ 108 (List._∷_ 101 (List._∷_ 115 (List._∷_ 58 (List._∷_ 58 (List._∷_ 79 (List._∷_ 117 (List._∷_ 116 (List._∷_ 99 (List._∷_ 111 (List._∷_ 109 (List._∷_ 101 List.[])))))))))))))) (Syntax.ttcons Syntax.tnil (Syntax.ttcons (Syntax.tcons (Syntax.tyInt Syntax.w16) Syntax.tnil) (Syntax.ttcons (Syntax.tcons (Syntax.tyInt Syntax.w16) Syntax.tnil) Syntax.ttnil)))) (Syntax.tcons (Syntax.tyInt Syntax.w64) (Syntax.tcons (Syntax.tyInt Syntax.w64) Syntax.tnil)))) 9 (Rows.whole (Declared'.row Answer.the-type)) (λ x. x) (λ u. At.getAt (PositionAnswer.the-type .parts) 0 (PositionAnswer.struct .as-values (u .1 .1 .1 .1 .1 .1 .1 .1 .0))) (λ u. (Row.hd 0 (Row.tl (Row.tl (Row.tl (Row.tl (Row.tl (Row.tl (Row.tl (Row.tl bs)))))))), Nat._+_ 0 0)) (λ T′. record { locals = Row.setRow 8 (8, Rows.whole (Declared'.row PositionAnswer.the-type)) T′; slots = G19 .slots }) (λ u T′ m′. Row.set 8 (8, Rows.whole (Declared'.row PositionAnswer.the-type)) (u .1 .1 .1 .1 .1 .1 .1 .1 .0) T′ m′) (λ u. Unit) (λ x. Unit) (Own.told-none 𝓤 H A (G19 .slots)) (DerefMove.learns-nothing 𝓤 H A (Declared'.row Answer.the-type)) (λ ρ told u asked. Way'.w-partˢ 𝓤 H A W E (Declared'.row PositionAnswer.the-type) (Declared'.row Answer.the-type) (Syntax.tyStruct (List._∷_ 112 (List._∷_ 111 (List._∷_ 115 (List._∷_ 105 (List._∷_ 116 (List._∷_ 105 (List._∷_ 111 (List._∷_ 110 (List._∷_ 95 (List._∷_ 97 (List._∷_ 108 (List._∷_ 111 (List._∷_ 110 (List._∷_ 101 (List._∷_ 58 (List._∷_ 58 (List._∷_ 80 (List._∷_ 111 (List._∷_ 115 (List._∷_ 105 (List._∷_ 116 (List._∷_ 105 (List._∷_ 111 (List._∷_ 110 (List._∷_ 65 (List._∷_ 110 (List._∷_ 115 (List._∷_ 119 (List._∷_ 101 (List._∷_ 114 List.[])))))))))))))))))))))))))))))) (Syntax.tcons (Syntax.tyStruct (List._∷_ 114 (List._∷_ 117 (List._∷_ 108 (List._∷_ 101 (List._∷_ 115 (List._∷_ 58 (List._∷_ 58 (List._∷_ 65 (List._∷_ 110 (List._∷_ 115 (List._∷_ 119 (List._∷_ 101 (List._∷_ 114 List.[]))))))))))))) (Syntax.tcons (Syntax.tyEnum (List._∷_ 114 (List._∷_ 117 (List._∷_ 108 (List._∷_ 101 (List._∷_ 115 (List._∷_ 58 (List._∷_ 58 (List._∷_ 79 (List._∷_ 117 (List._∷_ 116 (List._∷_ 99 (List._∷_ 111 (List._∷_ 109 (List._∷_ 101 List.[])))))))))))))) (Syntax.ttcons Syntax.tnil (Syntax.ttcons (Syntax.tcons (Syntax.tyInt Syntax.w16) Syntax.tnil) (Syntax.ttcons (Syntax.tcons (Syntax.tyInt Syntax.w16) Syntax.tnil) Syntax.ttnil)))) (Syntax.tcons (Syntax.tyInt Syntax.w64) (Syntax.tcons (Syntax.tyInt Syntax.w64) Syntax.tnil)))) (Syntax.tcons (Syntax.tyStruct (List._∷_ 112 (List._∷_ 111 (List._∷_ 115 (List._∷_ 105 (List._∷_ 116 (List._∷_ 105 (List._∷_ 111 (List._∷_ 110 (List._∷_ 58 (List._∷_ 58 (List._∷_ 80 (List._∷_ 111 (List._∷_ 115 (List._∷_ 105 (List._∷_ 116 (List._∷_ 105 (List._∷_ 111 (List._∷_ 110 (List._∷_ 83 (List._∷_ 121 (List._∷_ 110 (List._∷_ 116 (List._∷_ 97 (List._∷_ 120 List.[])))))))))))))))))))))))) (Syntax.tcons Syntax.tyBool (Syntax.tcons Syntax.tyBool (Syntax.tcons (Syntax.tyInt Syntax.w64) (Syntax.tcons (Syntax.tyInt Syntax.w64) (Syntax.tcons (Syntax.tyInt Syntax.w64) (Syntax.tcons Syntax.tyBool Syntax.tnil))))))) Syntax.tnil))) (Syntax.tyStruct (List._∷_ 114 (List._∷_ 117 (List._∷_ 108 (List._∷_ 101 (List._∷_ 115 (List._∷_ 58 (List._∷_ 58 (List._∷_ 65 (List._∷_ 110 (List._∷_ 115 (List._∷_ 119 (List._∷_ 101 (List._∷_ 114 List.[]))))))))))))) (Syntax.tcons (Syntax.tyEnum (List._∷_ 114 (List._∷_ 117 (List._∷_ 108 (List._∷_ 101 (List._∷_ 115 (List._∷_ 58 (List._∷_ 58 (List._∷_ 79 (List._∷_ 117 (List._∷_ 116 (List._∷_ 99 (List._∷_ 111 (List._∷_ 109 (List._∷_ 101 List.[])))))))))))))) (Syntax.ttcons Syntax.tnil (Syntax.ttcons (Syntax.tcons (Syntax.tyInt Syntax.w16) Syntax.tnil) (Syntax.ttcons (Syntax.tcons (Syntax.tyInt Syntax.w16) Syntax.tnil) Syntax.ttnil)))) (Syntax.tcons (Syntax.tyInt Syntax.w64) (Syntax.tcons (Syntax.tyInt Syntax.w64) Syntax.tnil)))) 0 0 (u .1 .1 .1 .1 .1 .1 .1 .1 .0) (At.getAt (PositionAnswer.the-type .parts) 0 (PositionAnswer.struct .as-values (u .1 .1 .1 .1 .1 .1 .1 .1 .0))) (Row.hd 0 (Row.tl (Row.tl (Row.tl (Row.tl (Row.tl (Row.tl (Row.tl (Row.tl bs)))))))), 0) (Way.w-look 𝓤 H A W E (Way.w-local 𝓤 H A W E G19 ρ u (G19 .slots) 8 (Declared'.row PositionAnswer.the-type) (Rows.whole (Declared'.row PositionAnswer.the-type)) (λ x. x) (λ x. x) (u .1 .1 .1 .1 .1 .1 .1 .1 .0) (Local.mem-whole 𝓤 H A W (Declared'.row PositionAnswer.the-type) ρ (u .1 .1 .1 .1 .1 .1 .1 .1 .0) (Row.hd 0 (Row.tl (Row.tl (Row.tl (Row.tl (Row.tl (Row.tl (Row.tl (Row.tl bs)))))))))) (Local.whole-mem 𝓤 H A W (Declared'.row PositionAnswer.the-type) ρ (u .1 .1 .1 .1 .1 .1 .1 .1 .0) (Row.hd 0 (Row.tl (Row.tl (Row.tl (Row.tl (Row.tl (Row.tl (Row.tl (Row.tl bs)))))))))))) Path'.refl λ q. Inner.cut-record 𝓤 H A q (Declared'.row PositionAnswer.the-type) Answer.the-type 0 (u .1 .1 .1 .1 .1 .1 .1 .1 .0) (u .1 .1 .1 .1 .1 .1 .1 .1 .0) (At.getAt (PositionAnswer.the-type .parts) 0 (PositionAnswer.struct .as-values (u .1 .1 .1 .1 .1 .1 .1 .1 .0))) (At.getAt (PositionAnswer.the-type .parts) 0 (PositionAnswer.struct .as-values (u .1 .1 .1 .1 .1 .1 .1 .1 .0))) (Row.hd 0 (Row.tl (Row.tl (Row.tl (Row.tl (Row.tl (Row.tl (Row.tl (Row.tl bs)))))))), 0) (Behind.look-at 𝓤 H A W q PositionAnswer.the-type Laws'.the-laws 0 0 Path'.refl Path'.refl (Row.hd 0 (Row.tl (Row.tl (Row.tl (Row.tl (Row.tl (Row.tl (Row.tl (Row.tl bs)))))))), 0) (u .1 .1 .1 .1 .1 .1 .1 .1 .0) (PositionAnswer.struct .as-values (u .1 .1 .1 .1 .1 .1 .1 .1 .0)) Path'.refl)) (Reads'.room-gone 𝓤 H A (Syntax.tyStruct (List._∷_ 114 (List._∷_ 117 (List._∷_ 108 (List._∷_ 101 (List._∷_ 115 (List._∷_ 58 (List._∷_ 58 (List._∷_ 65 (List._∷_ 110 (List._∷_ 115 (List._∷_ 119 (List._∷_ 101 (List._∷_ 114 List.[]))))))))))))) (Syntax.tcons (Syntax.tyEnum (List._∷_ 114 (List._∷_ 117 (List._∷_ 108 (List._∷_ 101 (List._∷_ 115 (List._∷_ 58 (List._∷_ 58 (List._∷_ 79 (List._∷_ 117 (List._∷_ 116 (List._∷_ 99 (List._∷_ 111 (List._∷_ 109 (List._∷_ 101 List.[])))))))))))))) (Syntax.ttcons Syntax.tnil (Syntax.ttcons (Syntax.tcons (Syntax.tyInt Syntax.w16) Syntax.tnil) (Syntax.ttcons (Syntax.tcons (Syntax.tyInt Syntax.w16) Syntax.tnil) Syntax.ttnil)))) (Syntax.tcons (Syntax.tyInt Syntax.w64) (Syntax.tcons (Syntax.tyInt Syntax.w64) Syntax.tnil))))) (Yields.makes-mem 𝓤 H A W (λ ρ. Unit) (Declared'.row Answer.the-type) Path'.refl (Rows.whole (Declared'.row Answer.the-type)) (λ x. x) λ ρ told. Local.whole-mem 𝓤 H A W (Declared'.row Answer.the-type) ρ) Path'.refl Path'.refl Path'.refl) d19
 
           d21 : Typed.Typed 𝓤 H A 𝓣 E G18 b21 Δ0 (at21 bs)
           d21 = Typed.g-pre 𝓤 H A W 𝓣 E G18 G19 b21 Δ0 (λ Ψ. Ψ) (at20 bs) (Lifetime.g-forget 𝓤 H A W E G18 4 Row.dead Path'.refl) d20
@@ -865,7 +865,7 @@ module _ (claims· : Claims) where
           d25 = Typed.g-pre 𝓤 H A W 𝓣 E G14 G15 b21 Δ0 (Typed.pass T14 T15 (s13 bs)) (at24 bs) (Scalar.g-room 𝓤 H A W E G14 7 (Syntax.tyStruct (List._∷_ 112 (List._∷_ 111 (List._∷_ 115 (List._∷_ 105 (List._∷_ 116 (List._∷_ 105 (List._∷_ 111 (List._∷_ 110 (List._∷_ 58 (List._∷_ 58 (List._∷_ 80 (List._∷_ 111 (List._∷_ 115 (List._∷_ 105 (List._∷_ 116 (List._∷_ 105 (List._∷_ 111 (List._∷_ 110 (List._∷_ 83 (List._∷_ 121 (List._∷_ 110 (List._∷_ 116 (List._∷_ 97 (List._∷_ 120 List.[])))))))))))))))))))))))) (Syntax.tcons Syntax.tyBool (Syntax.tcons Syntax.tyBool (Syntax.tcons (Syntax.tyInt Syntax.w64) (Syntax.tcons (Syntax.tyInt Syntax.w64) (Syntax.tcons (Syntax.tyInt Syntax.w64) (Syntax.tcons Syntax.tyBool Syntax.tnil))))))) (Local.room-whole 𝓤 H A W (Declared'.row PositionSyntax.the-type) (Syntax.tyStruct (List._∷_ 112 (List._∷_ 111 (List._∷_ 115 (List._∷_ 105 (List._∷_ 116 (List._∷_ 105 (List._∷_ 111 (List._∷_ 110 (List._∷_ 58 (List._∷_ 58 (List._∷_ 80 (List._∷_ 111 (List._∷_ 115 (List._∷_ 105 (List._∷_ 116 (List._∷_ 105 (List._∷_ 111 (List._∷_ 110 (List._∷_ 83 (List._∷_ 121 (List._∷_ 110 (List._∷_ 116 (List._∷_ 97 (List._∷_ 120 List.[])))))))))))))))))))))))) (Syntax.tcons Syntax.tyBool (Syntax.tcons Syntax.tyBool (Syntax.tcons (Syntax.tyInt Syntax.w64) (Syntax.tcons (Syntax.tyInt Syntax.w64) (Syntax.tcons (Syntax.tyInt Syntax.w64) (Syntax.tcons Syntax.tyBool Syntax.tnil))))))) Path'.refl)) d24
 
           d26 : Typed.Typed 𝓤 H A 𝓣 E G13 b22 Δ0 (at26 bs)
-          d26 = Typed.s-seq 𝓤 H A W 𝓣 E G13 G14 b4 b21 Δ0 (Typed.both (s12 bs)) (at25 bs) (Plain.t-call-plain 𝓤 H A W 𝓣 2 ps·1 r·1 (claims· .2) (claims· .3) "position::read_position" (known .1) E (λ pos β. β) G13 (record { pos = 1; ty = Syntax.tyRef (Syntax.named 0) Syntax.imm (Syntax.tyInt Syntax.w8); ref = λ x. x }, (Num.vAt 2 λ x. x, (Bool.bAt 3 λ x. x, (record { pos = 14; ty = Syntax.tyRef Syntax.erased Syntax.mut (Syntax.tyInt Syntax.w64); ref = λ x. x }, (record { pos = 7; st = List.[]; d = 0; at = λ x. x }, (Bool.bAt 6 λ x. x, tt)))))) 8 (List._∷_ 0 (List._∷_ 4 List.[])) (Call.sub-id 𝓤 H A W (G13 .slots)) (ShrSlice.spares-sslice 𝓤 H A W (Referent.rtF (Referent.fInt Syntax.w8)) (Syntax.tyRef (Syntax.named 0) Syntax.imm (Syntax.tyInt Syntax.w8)) 0, Shared.reads-sslice 𝓤 H A W (Referent.rtF (Referent.fInt Syntax.w8)) (Syntax.tyRef (Syntax.named 0) Syntax.imm (Syntax.tyInt Syntax.w8)) 0, Path'.refl, ((Scalar.reads-sc 𝓤 H A W (Row.sInt Syntax.w64), Path'.refl), ((Scalar.reads-sc 𝓤 H A W Row.sBool, Path'.refl), (Reads'.as-is 𝓤 H A (Mut.mslice (Referent.rtF (Referent.fInt Syntax.w64)) (Syntax.tyRef Syntax.erased Syntax.mut (Syntax.tyInt Syntax.w64)) 4), Mut.reads-mslice 𝓤 H A W (Referent.rtF (Referent.fInt Syntax.w64)) (Syntax.tyRef Syntax.erased Syntax.mut (Syntax.tyInt Syntax.w64)) 4, Path'.refl, ((Yields.yields-copy 𝓤 H A W (λ ρ. Unit) (Declared'.row PositionSyntax.the-type) Path'.refl (Copies.cStruct PositionSyntax.the-type Laws'.the-laws Laws'.the-copy .copy 𝓤 H A W) (Rows.whole (Declared'.row PositionSyntax.the-type)) (λ x. x) (λ x. x) (λ ρ told. Local.mem-whole 𝓤 H A W (Declared'.row PositionSyntax.the-type) ρ) λ ρ told. Local.whole-mem 𝓤 H A W (Declared'.row PositionSyntax.the-type) ρ, Path'.refl), ((Scalar.reads-sc 𝓤 H A W Row.sBool, Path'.refl), tt)))))) (Reads'.room-gone 𝓤 H A (Syntax.tyStruct (List._∷_ 112 (List._∷_ 111 (List._∷_ 115 (List._∷_ 105 (List._∷_ 116 (List._∷_ 105 (List._∷_ 111 (List._∷_ 110 (List._∷_ 58 (List._∷_ 58 (List._∷_ 80 (List._∷_ 111 (List._∷_ 115 (List._∷_ 105 (List._∷_ 116 (List._∷_ 105 (List._∷_ 111 (List._∷_ 110 (List._∷_ 65 (List._∷_ 110 (List._∷_ 115 (List._∷_ 119 (List._∷_ 101 (List._∷_ 114 List.[])))))))))))))))))))))))) (Syntax.tcons (Syntax.tyStruct (List._∷_ 114 (List._∷_ 117 (List._∷_ 108 (List._∷_ 101 (List._∷_ 115 (List._∷_ 58 (List._∷_ 58 (List._∷_ 65 (List._∷_ 110 (List._∷_ 115 (List._∷_ 119 (List._∷_ 101 (List._∷_ 114 List.[]))))))))))))) (Syntax.tcons (Syntax.tyEnum (List._∷_ 114 (List._∷_ 117 (List._∷_ 108 (List._∷_ 101 (List._∷_ 115 (List._∷_ 58 (List._∷_ 58 (List._∷_ 79 (List._∷_ 117 (List._∷_ 116 (List._∷_ 99 (List._∷_ 111 (List._∷_ 109 (List._∷_ 101 List.[])))))))))))))) (Syntax.ttcons Syntax.tnil (Syntax.ttcons (Syntax.tcons (Syntax.tyInt Syntax.w16) Syntax.tnil) (Syntax.ttcons (Syntax.tcons (Syntax.tyInt Syntax.w16) Syntax.tnil) Syntax.ttnil)))) (Syntax.tcons (Syntax.tyInt Syntax.w64) (Syntax.tcons (Syntax.tyInt Syntax.w64) Syntax.tnil)))) (Syntax.tcons (Syntax.tyStruct (List._∷_ 112 (List._∷_ 111 (List._∷_ 115 (List._∷_ 105 (List._∷_ 116 (List._∷_ 105 (List._∷_ 111 (List._∷_ 110 (List._∷_ 58 (List._∷_ 58 (List._∷_ 80 (List._∷_ 111 (List._∷_ 115 (List._∷_ 105 (List._∷_ 116 (List._∷_ 105 (List._∷_ 111 (List._∷_ 110 (List._∷_ 83 (List._∷_ 121 (List._∷_ 110 (List._∷_ 116 (List._∷_ 97 (List._∷_ 120 List.[])))))))))))))))))))))))) (Syntax.tcons Syntax.tyBool (Syntax.tcons Syntax.tyBool (Syntax.tcons (Syntax.tyInt Syntax.w64) (Syntax.tcons (Syntax.tyInt Syntax.w64) (Syntax.tcons (Syntax.tyInt Syntax.w64) (Syntax.tcons Syntax.tyBool Syntax.tnil))))))) Syntax.tnil)))) (tt, (tt, tt)) Path'.refl) d25
+          d26 = Typed.s-seq 𝓤 H A W 𝓣 E G13 G14 b4 b21 Δ0 (Typed.both (s12 bs)) (at25 bs) (Plain.t-call-plain 𝓤 H A W 𝓣 2 ps·1 r·1 (claims· .2) (claims· .3) "position_alone::read_position" (known .1) E (λ pos β. β) G13 (record { pos = 1; ty = Syntax.tyRef (Syntax.named 0) Syntax.imm (Syntax.tyInt Syntax.w8); ref = λ x. x }, (Num.vAt 2 λ x. x, (Bool.bAt 3 λ x. x, (record { pos = 14; ty = Syntax.tyRef Syntax.erased Syntax.mut (Syntax.tyInt Syntax.w64); ref = λ x. x }, (record { pos = 7; st = List.[]; d = 0; at = λ x. x }, (Bool.bAt 6 λ x. x, tt)))))) 8 (List._∷_ 0 (List._∷_ 4 List.[])) (Call.sub-id 𝓤 H A W (G13 .slots)) (ShrSlice.spares-sslice 𝓤 H A W (Referent.rtF (Referent.fInt Syntax.w8)) (Syntax.tyRef (Syntax.named 0) Syntax.imm (Syntax.tyInt Syntax.w8)) 0, Shared.reads-sslice 𝓤 H A W (Referent.rtF (Referent.fInt Syntax.w8)) (Syntax.tyRef (Syntax.named 0) Syntax.imm (Syntax.tyInt Syntax.w8)) 0, Path'.refl, ((Scalar.reads-sc 𝓤 H A W (Row.sInt Syntax.w64), Path'.refl), ((Scalar.reads-sc 𝓤 H A W Row.sBool, Path'.refl), (Reads'.as-is 𝓤 H A (Mut.mslice (Referent.rtF (Referent.fInt Syntax.w64)) (Syntax.tyRef Syntax.erased Syntax.mut (Syntax.tyInt Syntax.w64)) 4), Mut.reads-mslice 𝓤 H A W (Referent.rtF (Referent.fInt Syntax.w64)) (Syntax.tyRef Syntax.erased Syntax.mut (Syntax.tyInt Syntax.w64)) 4, Path'.refl, ((Yields.yields-copy 𝓤 H A W (λ ρ. Unit) (Declared'.row PositionSyntax.the-type) Path'.refl (Copies.cStruct PositionSyntax.the-type Laws.the-laws Laws.the-copy .copy 𝓤 H A W) (Rows.whole (Declared'.row PositionSyntax.the-type)) (λ x. x) (λ x. x) (λ ρ told. Local.mem-whole 𝓤 H A W (Declared'.row PositionSyntax.the-type) ρ) λ ρ told. Local.whole-mem 𝓤 H A W (Declared'.row PositionSyntax.the-type) ρ, Path'.refl), ((Scalar.reads-sc 𝓤 H A W Row.sBool, Path'.refl), tt)))))) (Reads'.room-gone 𝓤 H A (Syntax.tyStruct (List._∷_ 112 (List._∷_ 111 (List._∷_ 115 (List._∷_ 105 (List._∷_ 116 (List._∷_ 105 (List._∷_ 111 (List._∷_ 110 (List._∷_ 95 (List._∷_ 97 (List._∷_ 108 (List._∷_ 111 (List._∷_ 110 (List._∷_ 101 (List._∷_ 58 (List._∷_ 58 (List._∷_ 80 (List._∷_ 111 (List._∷_ 115 (List._∷_ 105 (List._∷_ 116 (List._∷_ 105 (List._∷_ 111 (List._∷_ 110 (List._∷_ 65 (List._∷_ 110 (List._∷_ 115 (List._∷_ 119 (List._∷_ 101 (List._∷_ 114 List.[])))))))))))))))))))))))))))))) (Syntax.tcons (Syntax.tyStruct (List._∷_ 114 (List._∷_ 117 (List._∷_ 108 (List._∷_ 101 (List._∷_ 115 (List._∷_ 58 (List._∷_ 58 (List._∷_ 65 (List._∷_ 110 (List._∷_ 115 (List._∷_ 119 (List._∷_ 101 (List._∷_ 114 List.[]))))))))))))) (Syntax.tcons (Syntax.tyEnum (List._∷_ 114 (List._∷_ 117 (List._∷_ 108 (List._∷_ 101 (List._∷_ 115 (List._∷_ 58 (List._∷_ 58 (List._∷_ 79 (List._∷_ 117 (List._∷_ 116 (List._∷_ 99 (List._∷_ 111 (List._∷_ 109 (List._∷_ 101 List.[])))))))))))))) (Syntax.ttcons Syntax.tnil (Syntax.ttcons (Syntax.tcons (Syntax.tyInt Syntax.w16) Syntax.tnil) (Syntax.ttcons (Syntax.tcons (Syntax.tyInt Syntax.w16) Syntax.tnil) Syntax.ttnil)))) (Syntax.tcons (Syntax.tyInt Syntax.w64) (Syntax.tcons (Syntax.tyInt Syntax.w64) Syntax.tnil)))) (Syntax.tcons (Syntax.tyStruct (List._∷_ 112 (List._∷_ 111 (List._∷_ 115 (List._∷_ 105 (List._∷_ 116 (List._∷_ 105 (List._∷_ 111 (List._∷_ 110 (List._∷_ 58 (List._∷_ 58 (List._∷_ 80 (List._∷_ 111 (List._∷_ 115 (List._∷_ 105 (List._∷_ 116 (List._∷_ 105 (List._∷_ 111 (List._∷_ 110 (List._∷_ 83 (List._∷_ 121 (List._∷_ 110 (List._∷_ 116 (List._∷_ 97 (List._∷_ 120 List.[])))))))))))))))))))))))) (Syntax.tcons Syntax.tyBool (Syntax.tcons Syntax.tyBool (Syntax.tcons (Syntax.tyInt Syntax.w64) (Syntax.tcons (Syntax.tyInt Syntax.w64) (Syntax.tcons (Syntax.tyInt Syntax.w64) (Syntax.tcons Syntax.tyBool Syntax.tnil))))))) Syntax.tnil)))) (tt, (tt, tt)) Path'.refl) d25
 
           d27 : Typed.Typed 𝓤 H A 𝓣 E G12 b23 Δ0 (at27 bs)
           d27 = Typed.s-seq 𝓤 H A W 𝓣 E G12 G13 b3 b22 Δ0 (Typed.ask (s11 bs)) (at26 bs) (Relend.t-sl-aggregate 𝓤 H A W E (Referent.rtF (Referent.fInt Syntax.w64)) 𝓣 (Relend.asMut (Referent.rtF (Referent.fInt Syntax.w64))) G12 13 14 4 (Syntax.tyRef Syntax.erased Syntax.mut (Syntax.tyInt Syntax.w64)) (Syntax.tyRef Syntax.erased Syntax.mut (Syntax.tyInt Syntax.w64)) (λ x. x) (Scalar.oFld 4 (List._∷_ (Syntax.field 1) List.[]) (Syntax.tyInt Syntax.w64) 8 λ v. Shared.lenV (v .0)) (Reads'.as-is 𝓤 H A (Relend.msptr (Referent.rtF (Referent.fInt Syntax.w64)) (Syntax.tyRef Syntax.erased Syntax.mut (Syntax.tyInt Syntax.w64)) 4)) (Reads'.room-gone 𝓤 H A (Syntax.tyStruct (List._∷_ 38 (List._∷_ 91 (List._∷_ 93 List.[]))) (Syntax.tcons (Syntax.tyRef Syntax.erased Syntax.mut (Syntax.tyInt Syntax.w64)) (Syntax.tcons (Syntax.tyInt Syntax.w64) Syntax.tnil)))) (Relend.reads-owed-len 𝓤 H A W (Referent.rtF (Referent.fInt Syntax.w64)) (Syntax.tyRef (Syntax.named 1) Syntax.mut (Syntax.tyInt Syntax.w64)) 1 4 (Row.lease (κs .1 .0) (qs .1 .0)) 8 Path'.refl, Path'.refl) Path'.refl Path'.refl λ b o k. tt) d26
@@ -1226,6 +1226,6 @@ module _ (claims· : Claims) where
           pub asked : (a : Kinds.Dens κs ps) → (good : Kinds.GoodsP κs ps a) → (pre : Pre· κs a) → (bs : List.List Nat.ℕ) → Φ bs (Any.wantQ 3 ps r xs m κs qs a (Post· κs a)) (Function.init 3 ps r xs m κs qs a)
           asked = λ a good pre bs. laid record { κs = κs; args = record { bytes = a .0; offset = a .1 .0; recording = a .1 .1 .0; words = a .1 .1 .1 .0; shape = a .1 .1 .1 .1 .0; full = a .1 .1 .1 .1 .1 .0 }; blocks = bs; good = good; fits = record { offset = record { fits = good .1 .0 .1 } }; pre = pre }
 
-        module _ {M : Type 1} (𝓤 : URA.URA M) (H : Wp.Heap 𝓤) (A : Atoms.Atoms 𝓤) (W : Kit.Given 𝓤 H A) (𝓣 : Wp.Tables 𝓤 H) (known0 : Plain.Known 𝓤 H A W 𝓣 1 ps·0 r·0 (claims· .0) (claims· .1) "lent::shape_of") (known1 : Plain.Known 𝓤 H A W 𝓣 2 ps·1 r·1 (claims· .2) (claims· .3) "position::read_position") (known2 : Plain.Known 𝓤 H A W 𝓣 0 ps·2 r·2 (claims· .4) (claims· .5) "rules::Outcome::is_read") (known3 : Plain.Known 𝓤 H A W 𝓣 1 ps·3 r·3 (claims· .6) (claims· .7) "lent::set_shape") where
+        module _ {M : Type 1} (𝓤 : URA.URA M) (H : Wp.Heap 𝓤) (A : Atoms.Atoms 𝓤) (W : Kit.Given 𝓤 H A) (𝓣 : Wp.Tables 𝓤 H) (known0 : Plain.Known 𝓤 H A W 𝓣 1 ps·0 r·0 (claims· .0) (claims· .1) "lent::shape_of") (known1 : Plain.Known 𝓤 H A W 𝓣 2 ps·1 r·1 (claims· .2) (claims· .3) "position_alone::read_position") (known2 : Plain.Known 𝓤 H A W 𝓣 0 ps·2 r·2 (claims· .4) (claims· .5) "rules::Outcome::is_read") (known3 : Plain.Known 𝓤 H A W 𝓣 1 ps·3 r·3 (claims· .6) (claims· .7) "lent::set_shape") where
           pub spec : Statement.Triple 𝓤 (Wp.WpFn 𝓤 H (𝓣 .C) (𝓣 .Λ) (Function.fnOf 3 ps r xs m hs body)) (Function.plainOf 𝓤 H A 3 ps r Pre· Post·)
           spec = Plain.t-fn-plain 𝓤 H A W 𝓣 3 ps r xs m hs body (λ κs qs bs. Φ bs) (λ κs qs bs bd. typed κs qs 𝓤 H A W 𝓣 (known0, known1, known2, known3) bs bd) Pre· Post· asked

@@ -1,0 +1,3 @@
+pub mod Kept
+pub mod Texts
+pub mod Demand
