@@ -9,19 +9,18 @@ set -euo pipefail
 cd "$(dirname "$0")/.."
 seed=${1:-2}
 scale=${2:-4}
-export CARGO_TARGET_DIR=$PWD/target/oracle GATEWAY_LIBRARY_DIR=$PWD/target/staticlib
+source tests/lib/built.sh
+build_oracle
+build_library
 manifest=oracle/Cargo.toml
-cargo test --quiet --release --offline --manifest-path "$manifest"
-cargo build --quiet --release --offline --manifest-path "$manifest"
-oracle=$CARGO_TARGET_DIR/release/oracle
 port=$CARGO_TARGET_DIR/release/port
+cargo test --quiet --release --offline --manifest-path "$manifest"
 work=$(mktemp -d)
 trap 'rm -rf "$work"' EXIT
 
 "$oracle" sample 1 | "$oracle" record | cmp - crates/replay/stdin
 echo "the stored answers are the oracle's"
 
-rt staticlib gateway
 cargo build --quiet --release --offline --manifest-path "$manifest" -p port
 cargo test --quiet --release --offline --manifest-path "$manifest" -p port -p fuzz -p bench
 

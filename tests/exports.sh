@@ -4,13 +4,13 @@
 # and what it answers; and the sizes, offsets and limits that it then prints must be the Rust's, whose tests are run too.
 set -euo pipefail
 cd "$(dirname "$0")/.."
-export CARGO_TARGET_DIR=$PWD/target/gateway GATEWAY_LIBRARY_DIR=$PWD/target/staticlib
+source tests/lib/built.sh
+build_library
+export CARGO_TARGET_DIR=$PWD/target/gateway
 library=$GATEWAY_LIBRARY_DIR/libgateway.a
 crate=(--quiet --release --offline --manifest-path include/gateway/Cargo.toml)
 work=$(mktemp -d)
 trap 'rm -rf "$work"' EXIT
-
-rt staticlib gateway
 
 cc -E -P include/gateway.h | grep -oE '\bgateway_\w+' | sort >"$work/functions"
 nm --defined-only --extern-only "$library" | grep -oE '\bgateway_\w+$' | sort | diff "$work/functions" -

@@ -1,4 +1,5 @@
 # What the tests of the programs share. Source it with the program's path set in `program`; it makes the folder `work`.
+source tests/lib/built.sh
 work=$(mktemp -d)
 trap 'rm -rf "$work"' EXIT
 : >"$work/nothing"
@@ -44,11 +45,4 @@ unprinted() {
   failed "$status" 1 "$name: standard output: closed"
   { sleep 0.2; into_pipe "$@" <"$file"; } | :
   failed "$(cat "$work/status")" 1 "$name: standard output: Broken pipe"
-}
-
-# Builds the oracle, and sets its path.
-build_oracle() {
-  export CARGO_TARGET_DIR=$PWD/target/oracle
-  cargo build --quiet --release --offline --manifest-path oracle/Cargo.toml
-  oracle=$CARGO_TARGET_DIR/release/oracle
 }
