@@ -4,8 +4,8 @@
 # Builds the oracle, and sets its path.
 build_oracle() {
   export CARGO_TARGET_DIR=$PWD/target/oracle
-  cargo build --quiet --release --offline --manifest-path oracle/Cargo.toml
   oracle=$CARGO_TARGET_DIR/release/oracle
+  cargo build --quiet --release --offline --manifest-path oracle/Cargo.toml
 }
 
 # Builds the static library: rt proves its crate anew for that, so it is left alone while the crate's stamp is that of the
@@ -16,11 +16,11 @@ build_library() {
   mkdir -p "$GATEWAY_LIBRARY_DIR"
   exec {lock}>"$GATEWAY_LIBRARY_DIR/lock"
   flock "$lock"
-  rt check gateway >"$GATEWAY_LIBRARY_DIR/log"
+  rt check gateway >"$GATEWAY_LIBRARY_DIR/log" || return
   if ! cmp -s target/stamp/gateway "$GATEWAY_LIBRARY_DIR/stamp"; then
-    rt staticlib gateway >"$GATEWAY_LIBRARY_DIR/log"
+    rt staticlib gateway >"$GATEWAY_LIBRARY_DIR/log" || return
     tail -n 1 "$GATEWAY_LIBRARY_DIR/log"
-    cp target/stamp/gateway "$GATEWAY_LIBRARY_DIR/stamp"
+    cp target/stamp/gateway "$GATEWAY_LIBRARY_DIR/stamp" || return
   fi
   exec {lock}>&-
 }

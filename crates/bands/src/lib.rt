@@ -4,7 +4,7 @@ use reader::Taken;
 use rules::Field;
 use rules::State;
 use rules::leaf;
-ghost use Prim.Native.Nat.{_+_, _≤_, _<_, _^_};
+ghost use Prim.Native.Nat.{_≤_, _<_, _^_};
 ghost use Rattle.rules.specs.Met.{Met, Sound};
 ghost use Rattle.fields.specs.Taken.{Took};
 ghost use Rattle.bands.specs.Bands.{rendererPrecision, compactOrPrecise, anglesAndGain, bandValues, band, countPlusOne, eachBand, bands};

@@ -4,7 +4,6 @@ use rules::block;
 use rules::leaf;
 ghost use Prim.Native.Nat.{_≤_, _<_, _^_};
 ghost use Rattle.rules.specs.Met.{Met, MetByWords, MetAlone, Sound};
-ghost use Rattle.code_tables.specs.Tables.{tables};
 ghost use Rattle.compression.specs.Compression.{lzwWidths, lzw, parameter, parameterIfPresent, padding, paddedTables, contents, metadataCompression};
 
 // Stopped by 35 unless the widths of LZW are at most 15 and 16.

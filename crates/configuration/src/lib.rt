@@ -6,7 +6,6 @@ use rules::block;
 use rules::leaf;
 ghost use Prim.Native.Nat.{_≤_, _<_};
 ghost use Rattle.rules.specs.Met.{Met, Sound};
-ghost use Rattle.component.specs.Component.{component};
 ghost use Rattle.configuration.specs.Configuration.{compression, compressionIfPresent, parameter, eachParameter, parameters, parametersIfPresent, dataIfPresent, group, eachGroup, groups, parametersAndGroups};
 
 // A compression: its type, its bytes and what they hold.

@@ -5,9 +5,6 @@ use rules::State;
 use rules::leaf;
 ghost use Prim.Native.Nat.{_<_, _^_};
 ghost use Rattle.rules.specs.Met.{Met, Sound};
-ghost use Rattle.headphones.specs.Headphones.{headphones};
-ghost use Rattle.hrtf.specs.Hrtf.{hrtf};
-ghost use Rattle.speakers.specs.Speakers.{speakers};
 ghost use Rattle.global.specs.Global.{gainValues, gain, item, items, mask, maskedItems, predefinedIndex, resourceReference, predefined, metadataGlobalParameter};
 
 // Kind 5: the four values of a gain, Cartesian or not.

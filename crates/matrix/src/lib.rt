@@ -2,7 +2,7 @@
 // say. The names begin with the word `q`.
 use rules::State;
 use rules::leaf;
-ghost use Prim.Native.Nat.{_+_, _%_, _<_, _^_};
+ghost use Prim.Native.Nat.{_%_, _<_, _^_};
 ghost use Rattle.rules.specs.Met.{Met, Sound};
 ghost use Rattle.matrix.specs.Matrix.{coefficientCount, Within, coefficientBits, matrixCoefficients, matrix};
 

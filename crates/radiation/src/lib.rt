@@ -6,7 +6,6 @@ use rules::leaf;
 ghost use Prim.Native.Nat.{_+_, _≤_, _<_, _^_};
 ghost use Rattle.rules.specs.Met.{Met, Sound};
 ghost use Rattle.fields.specs.Taken.{Took};
-ghost use Rattle.bands.specs.Bands.{bands};
 ghost use Rattle.radiation.specs.Radiation.{gainAndAngle, pattern, size, sizes, precisionWidth, patternOfPrecision, coefficients, resourceIndex, rendererRadiation};
 
 // Pattern 3.

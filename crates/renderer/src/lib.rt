@@ -3,10 +3,8 @@ use rules::Field;
 use rules::State;
 use rules::block;
 use rules::leaf;
-ghost use Prim.Native.Nat.{_+_, _≤_, _<_, _^_};
+ghost use Prim.Native.Nat.{_≤_, _<_, _^_};
 ghost use Rattle.rules.specs.Met.{Met, Sound};
-ghost use Rattle.matrix.specs.Matrix.{matrix};
-ghost use Rattle.renderer_kinds.specs.Kinds.{spread};
 ghost use Rattle.renderer.specs.Renderer.{rendererParameter, parameter, eachParameter, rendererData};
 
 // The `match` on the kind of a parameter.

@@ -1,9 +1,8 @@
 // A scene reverb, kind 9 of renderer data: passive_renderer.rs. The names begin with the word `q`.
 use rules::State;
 use rules::leaf;
-ghost use Prim.Native.Nat.{_+_, _<_, _^_};
+ghost use Prim.Native.Nat.{_<_, _^_};
 ghost use Rattle.rules.specs.Met.{Met, Sound};
-ghost use Rattle.common.specs.Common.{values};
 ghost use Rattle.scene_reverb.specs.SceneReverb.{indexAndReverb, resourceAndReverb, roomGeometry, sceneReverb};
 
 // Kind 9, type 1: an index and a reverb.
