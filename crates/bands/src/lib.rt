@@ -1,5 +1,7 @@
 // The bands of radiation patterns 1 and 2, and numbers of a declared precision: passive_renderer.rs, `renderer_precision` and in
 // `renderer_radiation`. The names of a pattern begin with the word `p`, those of a band with `q`.
+#![tactic(auto)]
+
 ghost use Rattle.std.specs.Prelude.{◌≤◌, ◌<◌, ◌^◌};
 ghost use Rattle.rules.specs.Met.{Met, Sound};
 ghost use Rattle.fields.specs.Taken.{Took};

@@ -1,4 +1,6 @@
 // Bits of a slice of bytes, most significant bit first: bits.rs, `BitReader::read`.
+#![tactic(auto)]
+
 ghost use Rattle.std.specs.Prelude.{◌≡◌, ◌+◌, ◌%◌, ◌≤◌, ◌<◌, ◌^◌};
 ghost use Rattle.bits.specs.Bits.{bits_at};
 

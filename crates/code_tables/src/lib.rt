@@ -1,5 +1,7 @@
 // The tables of a compression configuration: codewords or probabilities for each symbol: passive_compression.rs. The names of a
 // table begin with the word `q`.
+#![tactic(auto)]
+
 ghost use Rattle.std.specs.Prelude.{◌≡◌, ◌≤◌, ◌<◌, ◌^◌};
 ghost use Rattle.rules.specs.Derived.{repeat};
 ghost use Rattle.rules.specs.Met.{Met, Sound};

@@ -1,5 +1,7 @@
 // What global parameters and renderer data have in common: passive_metadata.rs, `metadata_resource` and `metadata_reverb`, and
 // the lines that both repeat. The names of each begin with the word `p`.
+#![tactic(auto)]
+
 ghost use Rattle.std.specs.Prelude.{◌≤◌, ◌<◌, ◌^◌, length};
 ghost use Rattle.rules.specs.Met.{Met, Sound};
 ghost use Rattle.fields.specs.Taken.{Narrow};

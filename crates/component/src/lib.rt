@@ -1,4 +1,6 @@
 // The component of a group: passive_metadata.rs, in `metadata_configuration`. `q` is the word that the names of a group begin with.
+#![tactic(auto)]
+
 ghost use Rattle.std.specs.Prelude.{◌<◌, ◌^◌};
 ghost use Rattle.rules.specs.Met.{Met, Sound};
 ghost use Rattle.fields.specs.Taken.{Took};

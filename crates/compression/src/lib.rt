@@ -1,4 +1,6 @@
 // The configuration of a metadata compression: passive_compression.rs, `metadata_compression`. What it declares is not decoded.
+#![tactic(auto)]
+
 ghost use Rattle.std.specs.Prelude.{◌≤◌, ◌<◌, ◌^◌};
 ghost use Rattle.rules.specs.Met.{Met, MetByWords, Sound};
 ghost use Rattle.compression.specs.Compression.{parameter, parameter_if_present, padding, padded_tables, contents, metadata_compression};

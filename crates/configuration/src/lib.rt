@@ -1,5 +1,7 @@
 // What a metadata configuration that is there holds: a compression, parameters, and groups with their renderer data:
 // passive_metadata.rs, `metadata_configuration`.
+#![tactic(auto)]
+
 ghost use Rattle.std.specs.Prelude.{◌≤◌, ◌<◌};
 ghost use Rattle.rules.specs.Met.{Met, Sound};
 ghost use Rattle.configuration.specs.Configuration.{compression, compression_if_present, parameter, each_parameter, parameters, parameters_if_present, data_if_present, group, each_group, groups, parameters_and_groups};

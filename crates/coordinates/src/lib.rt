@@ -1,4 +1,6 @@
 // The coordinates of a position: passive.rs, in `position`. How many bits each has, how many there are, and their fields.
+#![tactic(auto)]
+
 ghost use Rattle.std.specs.Prelude.{◌≡◌, ◌≤◌, ◌<◌, ◌^◌};
 ghost use Rattle.rules.specs.Met.{Met, Sound};
 ghost use Rattle.coordinates.specs.Coordinates.{width_of, bases, how_many, widths_of, coordinate_values};

@@ -1,5 +1,7 @@
 // A position of default shape, read in full: `position` as passive_metadata.rs and passive_renderer.rs call it. It stands apart
 // from what else both call, so that only these kinds of parameters wait for positions.
+#![tactic(auto)]
+
 ghost use Rattle.std.specs.Prelude.{◌<◌, ◌^◌};
 ghost use Rattle.rules.specs.Met.{Met, Sound};
 ghost use Rattle.default_position.specs.DefaultPosition.{default_position};

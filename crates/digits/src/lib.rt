@@ -1,4 +1,6 @@
 // A number read back from its decimal digits.
+#![tactic(auto)]
+
 ghost use Rattle.std.specs.Prelude.{◌≡◌, ◌≤◌, length};
 ghost use Rattle.digits.specs.Digits.{no_number, digits_number, number_in};
 

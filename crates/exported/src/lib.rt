@@ -1,4 +1,6 @@
 // The answer of a reading as it crosses to C and Rust: its outcome as two numbers, and everything else as it is.
+#![tactic(auto)]
+
 ghost use Rattle.std.specs.Prelude.{◌≡◌};
 ghost use Rattle.rules.specs.Answer.{outcome_number};
 ghost use Rattle.exported.specs.Exported.{outcome_code, told, exported};

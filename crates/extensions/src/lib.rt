@@ -1,4 +1,6 @@
 // The extensions of a position: passive.rs, in `position`. At most 32 of them, the last of type 0, and all passed over.
+#![tactic(auto)]
+
 ghost use Rattle.std.specs.Prelude.{◌<◌, ◌^◌};
 ghost use Rattle.rules.specs.Met.{Met, Sound};
 ghost use Rattle.extensions.specs.Extensions.{extension_body, extension, extensions, extensions_if_present};

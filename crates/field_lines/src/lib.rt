@@ -1,4 +1,6 @@
 // The line that `scene-fields` prints of a field: its place, its value and its name.
+#![tactic(auto)]
+
 ghost use Rattle.std.specs.Prelude.{◌+◌, ◌≤◌, length, [], ◌++◌};
 ghost use Rattle.rules.specs.Rule.{pick};
 ghost use Rattle.text.specs.Text.{newline, Put, Lined};

@@ -1,4 +1,6 @@
 // The place and the value of a field, as `scene-fields` prints them: the numbers of a line, before the name.
+#![tactic(auto)]
+
 ghost use Rattle.std.specs.Prelude.{◌+◌, ◌≤◌, length};
 ghost use Rattle.text.specs.Text.{ascii, Put};
 ghost use Rattle.field_text.specs.FieldText.{unit, place_text, value_text};

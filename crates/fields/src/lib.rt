@@ -1,5 +1,7 @@
 // Fields of a width that is known before: the reading part of parser.rs over a state by value. Each function is the Rust's
 // method of that name, and promises its rule. The words are the lent buffer of recorded fields.
+#![tactic(auto)]
+
 ghost use Rattle.std.specs.Prelude.{◌≡◌, ◌&&◌, length, leb, ◌+◌, ◌*◌, ◌≤◌, ◌<◌, ◌^◌};
 ghost use Rattle.rules.specs.Derived.{take, flag, passive_values, count, drc_count};
 ghost use Rattle.rules.specs.Met.{Met, Sound};

@@ -1,5 +1,7 @@
 // What a gateway calls from C or Rust: the readings as exported functions over numbers, slices and plain structs. None asks
 // anything of its caller. include/gateway.h says what they do.
+#![tactic(auto)]
+
 ghost use Rattle.std.specs.Prelude.{◌≡◌, length};
 ghost use Rattle.rules.specs.Answer.{input_of, answer_of};
 ghost use Rattle.position_alone.specs.Entry.{position_reading};

@@ -1,5 +1,7 @@
 // The parameters of a whole configuration: passive_metadata.rs, `metadata_global_parameter`. The names of each begin with the
 // word `p`.
+#![tactic(auto)]
+
 ghost use Rattle.std.specs.Prelude.{◌<◌, ◌^◌};
 ghost use Rattle.rules.specs.Met.{Met, Sound};
 ghost use Rattle.global.specs.Global.{gain_values, gain, item, items, mask, masked_items, predefined_index, resource_reference, predefined, metadata_global_parameter};

@@ -1,5 +1,7 @@
 // Headphone channels, kind 15 of the parameters of a whole configuration: passive_metadata.rs. They fill the bytes that are
 // declared for them. The names begin with the word `p`.
+#![tactic(auto)]
+
 ghost use Rattle.std.specs.Prelude.{◌≤◌, ◌<◌, ◌^◌};
 ghost use Rattle.rules.specs.Met.{Met, MetByWords, Sound};
 ghost use Rattle.headphones.specs.Headphones.{channels, padding, padded_channels, headphone_channels, headphones};

@@ -1,5 +1,7 @@
 // A head-related transfer function, kind 7 of the parameters of a whole configuration: passive_metadata.rs. The names begin with
 // the word `p`.
+#![tactic(auto)]
+
 ghost use Rattle.std.specs.Prelude.{◌<◌, ◌^◌};
 ghost use Rattle.rules.specs.Met.{Met, Sound};
 ghost use Rattle.hrtf.specs.Hrtf.{hrtf_resource, hrtf_type, hrtf};

@@ -1,4 +1,6 @@
 // Standard input, read into lent bytes.
+#![tactic(auto)]
+
 ghost use Rattle.io.specs.Counts.{IsPrefixLen};
 
 use libc::STDIN_FILENO;

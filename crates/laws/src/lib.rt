@@ -1,1 +1,2 @@
 // Laws over every rule, proved once: they stand in specs/ and proofs/. There is no code here.
+#![tactic(auto)]

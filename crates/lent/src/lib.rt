@@ -1,5 +1,7 @@
 // Shapes that a caller lends: the readings over `&mut PositionSyntax` and `&mut [PositionSyntax]`, each over the one by
 // value. A lent shape is written only where the reading was accepted.
+#![tactic(auto)]
+
 ghost use Rattle.std.specs.Prelude.{◌≡◌, ◌≤◌, length, get_or, take};
 ghost use Rattle.rules.specs.Answer.{input_of, answer_of, Answered};
 ghost use Rattle.position_alone.specs.Entry.{position_reading};

@@ -1,4 +1,6 @@
 // A compression of type 0: passive_compression.rs, `metadata_compression`, its arm for LZW.
+#![tactic(auto)]
+
 ghost use Rattle.rules.specs.Met.{Met, MetAlone, Sound};
 ghost use Rattle.lzw.specs.Lzw.{lzw_widths, lzw};
 

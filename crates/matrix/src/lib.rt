@@ -1,5 +1,7 @@
 // A rendering matrix, kind 22 of renderer data: passive_renderer.rs. It has as many coefficients as its layout and its order
 // say. The names begin with the word `q`.
+#![tactic(auto)]
+
 ghost use Rattle.std.specs.Prelude.{◌%◌, ◌<◌, ◌^◌};
 ghost use Rattle.rules.specs.Met.{Met, Sound};
 ghost use Rattle.matrix.specs.Matrix.{coefficient_count, Within, coefficient_bits, matrix_coefficients, matrix};

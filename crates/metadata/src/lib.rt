@@ -1,4 +1,6 @@
 // A metadata configuration: passive_metadata.rs, `metadata_configuration`, as a call from any bit on.
+#![tactic(auto)]
+
 ghost use Rattle.std.specs.Prelude.{length};
 ghost use Rattle.rules.specs.Met.{Met, Sound};
 ghost use Rattle.rules.specs.Answer.{input_of, entry_then, Answered};

@@ -1,5 +1,7 @@
 // One row of the table of docs/FIELDS.md (`name_table` has its columns): whether indices are in its ranges, whether it stands in a
 // block, and its text with the indices in their places.
+#![tactic(auto)]
+
 ghost use Rattle.std.specs.Prelude.{◌≡◌, ◌+◌, ◌≤◌, length};
 ghost use Rattle.text.specs.Text.{Put};
 ghost use Rattle.name_row.specs.Row.{number_at, in_range, stands_in, character, indexed};

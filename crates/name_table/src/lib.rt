@@ -1,6 +1,8 @@
 // The table of docs/FIELDS.md, and the rows of a word's block and leaf. A row has 59 bytes; number 0 is an empty one. From column
 // 0 on it has the text, in which `[]` is the place of an index and which ends at a blank; from 46 and from 51 on the greatest
 // values of its two indices, 0 where the text has no place for one; from 56 on the blocks that a leaf stands in.
+#![tactic(auto)]
+
 ghost use Rattle.std.specs.Prelude.{◌≡◌};
 ghost use Rattle.name_table.specs.Table.{block_row, leaf_row};
 

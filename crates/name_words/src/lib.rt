@@ -1,4 +1,6 @@
 // Name words (docs/FIELDS.md): whether one is known, and its text, that of its block, a dot, and that of its leaf.
+#![tactic(auto)]
+
 ghost use Rattle.std.specs.Prelude.{◌≡◌, ◌+◌, ◌≤◌, length};
 ghost use Rattle.text.specs.Text.{Put};
 ghost use Rattle.name_words.specs.NameText.{known, block_text, leaf_text, name_text};

@@ -1,4 +1,6 @@
 // The text of a name word, written to bytes that the caller lends (docs/FIELDS.md).
+#![tactic(auto)]
+
 ghost use Rattle.std.specs.Prelude.{◌≡◌, length};
 ghost use Rattle.names.specs.NameAnswer.{room_question, name_question, NameAnswered};
 

@@ -1,4 +1,6 @@
 // What each number of document 01 means, in words (docs/NUMBERS.md).
+#![tactic(auto)]
+
 ghost use Rattle.std.specs.Prelude.{◌≡◌, ◌+◌, ◌≤◌, length, take};
 ghost use Rattle.text.specs.Table.{row};
 ghost use Rattle.text.specs.Text.{Put};

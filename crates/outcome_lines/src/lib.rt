@@ -1,4 +1,6 @@
 // The line that `scene-fields` prints of a reading's outcome.
+#![tactic(auto)]
+
 ghost use Rattle.std.specs.Prelude.{◌+◌, ◌≤◌, length, ◌++◌};
 ghost use Rattle.text.specs.Text.{ascii, decimal, newline, Put, Lined};
 ghost use Rattle.numbers.specs.Meaning.{meaning};

@@ -1,4 +1,6 @@
 // One part of a show file, read with its fields.
+#![tactic(auto)]
+
 ghost use Rattle.std.specs.Prelude.{◌≡◌, ◌-◌, ◌≤◌, ◌<◌, take};
 ghost use Rattle.book.specs.Book.{book_shapes};
 ghost use Rattle.show_header.specs.Header.{HeaderSound, part_count};

@@ -1,4 +1,6 @@
 // The passive syntax of one scene position: passive.rs, `position`. Coordinates stay encoded.
+#![tactic(auto)]
+
 ghost use Rattle.std.specs.Prelude.{◌≡◌, ◌≤◌, ◌<◌, ◌^◌};
 ghost use Rattle.rules.specs.Met.{Met, Sound};
 ghost use Rattle.position.specs.Shape.{default, with_dynamics, with_precisions, with_parent, with_polar};

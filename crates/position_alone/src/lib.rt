@@ -1,5 +1,7 @@
 // A position read by itself: document 01 has it called alone, with the entry questions of an update and the names of the first
 // position of a scene. If it is refused, the shape is as it came.
+#![tactic(auto)]
+
 ghost use Rattle.std.specs.Prelude.{◌≡◌, length};
 ghost use Rattle.rules.specs.Block.{positions};
 ghost use Rattle.rules.specs.Rule.{pick};

@@ -1,6 +1,8 @@
 // The positions of a scene or of an update, one after another: passive.rs, the loops of `scene_graph` and of `graph_update`.
 // In a scene all of them are there and full; in an update each has a flag first, and keeps its shape if it is not set. Both
 // are one loop here, over the shapes that come in: those of a scene are the default.
+#![tactic(auto)]
+
 ghost use Rattle.std.specs.Prelude.{ℕ, ◌≤◌, ◌<◌, ◌^◌, get_or, take};
 ghost use Rattle.rules.specs.Met.{Met, Sound};
 ghost use Rattle.position.specs.Shape.{default};

@@ -1,4 +1,6 @@
 // The probabilities of a table whose names begin with the word `q`: passive_compression.rs, the tables of types 1 and 2.
+#![tactic(auto)]
+
 ghost use Rattle.std.specs.Prelude.{◌≡◌, ◌+◌, ◌*◌, ◌≤◌, ◌<◌, ◌^◌};
 ghost use Rattle.std.specs.Float.Ieee.Scale.{finite};
 ghost use Rattle.rules.specs.Derived.{fold};

@@ -1,4 +1,6 @@
 // Radiation patterns of renderer data: passive_renderer.rs, `renderer_radiation`. The names of each begin with the word `p`.
+#![tactic(auto)]
+
 ghost use Rattle.std.specs.Prelude.{◌+◌, ◌≤◌, ◌<◌, ◌^◌};
 ghost use Rattle.rules.specs.Met.{Met, Sound};
 ghost use Rattle.fields.specs.Taken.{Took};

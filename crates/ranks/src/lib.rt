@@ -1,4 +1,6 @@
 // The ranks of positions, from the list of their parents alone: `parents[i]` is the parent of position `i + 1`, and 0 is none.
+#![tactic(auto)]
+
 ghost use Rattle.std.specs.Prelude.{◌≡◌};
 ghost use Rattle.ranks.specs.Rank.{chain, rank_of, verdict};
 

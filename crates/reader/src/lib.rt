@@ -1,5 +1,7 @@
 // The Rust's `BitReader` over a state by value, and the ends of a reading: bits read or passed over, a new end of the window,
 // refused and stopped, and what every entry asks. Nothing here makes a field, so none is lent the words.
+#![tactic(auto)]
+
 ghost use Rattle.std.specs.Prelude.{length, ◌≤◌, ◌^◌};
 ghost use Rattle.rules.specs.Rule.{refused, bits, skip, set_end};
 ghost use Rattle.rules.specs.Derived.{invalid, stop, demand, entry};

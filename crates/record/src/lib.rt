@@ -1,4 +1,6 @@
 // The Rust's `Parser::record`: a field is counted and, when recording, its five words are written into the lent buffer.
+#![tactic(auto)]
+
 ghost use Rattle.std.specs.Prelude.{◌≡◌, length, ◌+◌, ◌≤◌};
 ghost use Rattle.std.proofs.lemmas.List.Edits.{sets};
 ghost use Rattle.rules.specs.Rule.{field};

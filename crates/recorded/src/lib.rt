@@ -1,5 +1,7 @@
 // What a record of the oracle holds, as replay reads it from standard input: its head, shapes, the words of fields, the bytes of
 // a text, and whether what a call answered and left is that. `oracle/README.md` says how a record is laid out.
+#![tactic(auto)]
+
 ghost use Rattle.std.specs.Prelude.{◌≤◌};
 
 use libc::STDIN_FILENO;

@@ -1,4 +1,6 @@
 // Renderer data of a group: passive_renderer.rs, `renderer_data`. The names of a parameter begin with the word `q`.
+#![tactic(auto)]
+
 ghost use Rattle.std.specs.Prelude.{◌≤◌, ◌<◌, ◌^◌};
 ghost use Rattle.rules.specs.Met.{Met, Sound};
 ghost use Rattle.renderer.specs.Renderer.{renderer_parameter, parameter, each_parameter, renderer_data};

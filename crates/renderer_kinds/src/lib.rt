@@ -1,5 +1,7 @@
 // The kinds of renderer parameters that are a few numbers and flags each: passive_renderer.rs, the arms of `renderer_data`. The
 // names of a parameter begin with the word `q`.
+#![tactic(auto)]
+
 ghost use Rattle.std.specs.Prelude.{◌+◌, ◌≤◌, ◌<◌, ◌^◌};
 ghost use Rattle.rules.specs.Leaf.{renderer_values};
 ghost use Rattle.rules.specs.Met.{Met, Sound};

@@ -3,6 +3,8 @@
 // them are held to what the oracle gave, and so are the text of a name or of a show and the bytes after it.
 // `oracle/README.md` says how a record is laid out: a head of 34 bytes, the input, what is handed in, the shapes after the
 // call, and the words of the recorded fields or the text.
+#![tactic(auto)]
+
 ghost use Rattle.std.specs.Prelude.{◌≡◌, length};
 
 use libc::{STDIN_FILENO, STDOUT_FILENO};

@@ -1,4 +1,6 @@
 // What `scene-fields` is asked for, by its arguments.
+#![tactic(auto)]
+
 ghost use Rattle.std.specs.Prelude.{◌≡◌};
 ghost use Rattle.text.specs.Text.{same_text};
 ghost use Rattle.request.specs.Request.{number_or_zero, part_request, request_of};

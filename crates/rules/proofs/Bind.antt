@@ -11,7 +11,7 @@ use lib.Dec.{ltb}
 use Rattle.bits.specs.Bits.{bits_at}
 use Rattle.rules.specs.declared.Field.{Field}
 use Rattle.rules.specs.Rule.{Rule, done, ends, position_then, end_then, bits_then, skip_then, field_then, set_end_then, End, refused, pick, ◌>>=◌}
-use Rattle.rules.specs.Reading.{Reading, Result, read, ended, Input, reading, ended_at, with, has_room, inside}
+use Rattle.rules.specs.Reading.{Reading, Result, read, ended, Input, reading, ended_at, with, field_to, has_room, inside}
 
 -- A reading with more after it: if it was read, the next one goes on from its position and end, with its fields counted;
 -- if it ended, that is all.
@@ -49,13 +49,20 @@ bind i (done a) f p e n = rw add-zero
 bind i (ends x) f p e n = refl
 bind i (position_then k) f p e n = bind i (k p) f p e n
 bind i (end_then k) f p e n = bind i (k e) f p e n
-bind i (bits_then w k) f p e n = pick_then _ (ltb (e - p) w) n (refused 3) p e _ _ (bind i (k (bits_at i.bytes p w)) f (p + w) e n)
-bind i (skip_then w k) f p e n = pick_then _ (ltb (e - p) w) n (refused 3) p e _ _ (bind i k f (p + w) e n)
+bind i (bits_then w k) f p e n =
+    let r = k (bits_at i.bytes p w) in
+    pick_then (λ a. reading i (f a)) (ltb (e - p) w) n (refused 3) p e (reading i (r >>= f) (p + w) e n) (reading i r (p + w) e n) (bind i (k (bits_at i.bytes p w)) f (p + w) e n)
+bind i (skip_then w k) f p e n =
+    pick_then (λ a. reading i (f a)) (ltb (e - p) w) n (refused 3) p e (reading i (k >>= f) (p + w) e n) (reading i k (p + w) e n) (bind i k f (p + w) e n)
 bind i (field_then name start v k) f p e n =
-    then_pick _ (ltb n 16384) n (refused 4) p e _ _
-    (then_pick _ (has_room i n) n (refused 5) p e _ _
-    (ap (with _) (bind i k f p e (n + 1)) ∙ with_after _ n _ _ _ (reading i k p e (n + 1)).fields (reading i k p e (n + 1)).result))
-bind i (set_end_then x k) f p e n = then_pick _ (inside i p x) n (refused 3) p e _ _ (bind i k f p x n)
+    let one = field_to name start v p in
+    let x = reading i (k >>= f) p e (n + 1) in
+    let y = reading i k p e (n + 1) in
+    then_pick (λ a. reading i (f a)) (ltb n 16384) n (refused 4) p e (pick (has_room i n) (with one x) (ended_at (refused 5) p e)) (pick (has_room i n) (with one y) (ended_at (refused 5) p e))
+    (then_pick (λ a. reading i (f a)) (has_room i n) n (refused 5) p e (with one x) (with one y)
+    (ap (with one) (bind i k f p e (n + 1)) ∙ with_after (λ a. reading i (f a)) n one y.position y.end y.fields y.result))
+bind i (set_end_then x k) f p e n =
+    then_pick (λ a. reading i (f a)) (inside i p x) n (refused 3) p e (reading i (k >>= f) p x n) (reading i k p x n) (bind i k f p x n)
 
 -- it does not matter how rules one after another are put together
 pub assoc : {A B C : Type 0} (r : Rule A) (f : A → Rule B) (g : B → Rule C) → r >>= f >>= g ≡ r >>= (λ a. f a >>= g)

@@ -28,11 +28,11 @@ Others n ((keys ⇒ r) ∷ arms) kind = Others (n × (OneOf keys kind → ⊥)) 
 module _ {A : Type 0} (kind : ℕ) where
   told : {n : Type 0} (arms : List (Arm A)) → Others n arms kind → n
   told [] h = h
-  told ((keys ⇒ r) ∷ arms) h = (told arms h).0
+  told {n = n} ((keys ⇒ r) ∷ arms) h = (told {n = n × (OneOf keys kind → ⊥)} arms h).0
 
   none_chosen : (n : Type 0) (arms : List (Arm A)) (other : Rule A) → Others n arms kind → arm_of kind arms other ≡ other
   none_chosen n [] other h = refl
-  none_chosen n ((keys ⇒ r) ∷ arms) other h = rw (not_among kind keys (told arms h).1) (none_chosen _ arms other h)
+  none_chosen n ((keys ⇒ r) ∷ arms) other h = rw (not_among kind keys (told arms h).1) (none_chosen (n × (OneOf keys kind → ⊥)) arms other h)
 
 module _ {A : Type 0} (arms : List (Arm A)) (other : Rule A) {bs ws : List ℕ} {s : State} {a : A} {t : State} {vs : List ℕ} {kind : ℕ} where
   pub chosen : {k : ℕ} → kind ≡ k → Met (arm_of k arms other) bs ws s a t vs → Met (choose kind arms other) bs ws s a t vs

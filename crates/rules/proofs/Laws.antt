@@ -72,7 +72,7 @@ module _ {A B : Type 0} {r : Rule A} (f : A → Rule B) {bs ws : List ℕ} {s : 
       let l : length vs ≡ length ws = ap length (x.going h).words ∙ recorded_length s.recording ws s.fields _ in
       rw (bind _ r f s.position s.end s.fields)
       (gives_on (λ a. reading _ (f a)) _ (x.going h) q (rw (l, x.recording) at (y.going q)))
-  went x y h false q = rw (bind _ r f s.position s.end s.fields, y.over q, y.still q) (gives_off _ _ (x.going h) q)
+  went x y h false q = rw (bind _ r f s.position s.end s.fields, y.over q, y.still q) (gives_off (λ a. reading (record { bytes = bs; recording = s.recording; room = length ws }) (f a)) _ (x.going h) q)
 
   -- one call after another
   pub first : Met r bs ws s a t vs → Met (f a) bs vs t b u us → Met (r >>= f) bs ws s b u us

@@ -1,4 +1,6 @@
 // The reading state by value, the fields that a reading makes, and the answer that it comes to.
+#![tactic(auto)]
+
 ghost use Rattle.std.specs.Prelude.{◌≡◌};
 ghost use Rattle.rules.specs.Reading.{is_read};
 ghost use Rattle.rules.specs.Words.{kind_of, number_of, is_value, value_from, field_at};

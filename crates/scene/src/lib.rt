@@ -1,4 +1,6 @@
 // A scene: passive.rs, `scene_graph`.
+#![tactic(auto)]
+
 ghost use Rattle.std.specs.Prelude.{◌≡◌, length};
 ghost use Rattle.rules.specs.Met.{Sound};
 ghost use Rattle.rules.specs.Answer.{input_of, entry_then};

@@ -1,5 +1,7 @@
 // scene-fields: reads a scene, a metadata configuration or a show file from standard input, and prints the fields of what is
 // asked for, a line each, and then the outcome.
+#![tactic(auto)]
+
 ghost use Rattle.std.specs.Prelude.{length, ◌≡◌};
 
 use libc::{STDERR_FILENO, STDOUT_FILENO};

@@ -1,4 +1,6 @@
 // A scene reverb, kind 9 of renderer data: passive_renderer.rs. The names begin with the word `q`.
+#![tactic(auto)]
+
 ghost use Rattle.std.specs.Prelude.{◌<◌, ◌^◌};
 ghost use Rattle.rules.specs.Met.{Met, Sound};
 ghost use Rattle.scene_reverb.specs.SceneReverb.{index_and_reverb, resource_and_reverb, room_geometry, scene_reverb};

@@ -1,4 +1,6 @@
 // scene-show: reads a show file from standard input, and prints its text.
+#![tactic(auto)]
+
 ghost use Rattle.std.specs.Prelude.{length, ◌≡◌};
 
 use libc::{STDERR_FILENO, STDOUT_FILENO};

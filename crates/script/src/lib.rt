@@ -1,5 +1,7 @@
 // A script of fields: operations of a reading, one after another, as a record of the oracle holds them. Each asks the function of
 // `reader`, `fields` or `variable` that it names.
+#![tactic(auto)]
+
 ghost use Rattle.std.specs.Prelude.{◌≤◌};
 ghost use Rattle.rules.specs.Met.{Sound};
 

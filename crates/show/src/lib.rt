@@ -1,4 +1,6 @@
 // A show file, and the text that `scene-show` prints of it.
+#![tactic(auto)]
+
 ghost use Rattle.std.specs.Prelude.{◌+◌, ◌-◌, ◌≤◌, length, take};
 ghost use Rattle.text.specs.Text.{Put};
 ghost use Rattle.show_header.specs.Header.{HeaderSound, part_count};

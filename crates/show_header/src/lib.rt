@@ -1,5 +1,7 @@
 // The header of a show file: how many parts it has and where each begins and ends, and questions 23 and 24, which are
 // asked of the file before any part is read.
+#![tactic(auto)]
+
 ghost use Rattle.std.specs.Prelude.{◌≡◌, ◌≤◌};
 ghost use Rattle.show_header.specs.Header.{part_count, offset_of, end_of, in_order, is_sound, file_question};
 

@@ -1,5 +1,7 @@
 // The lines of the printed text of a show file, put into lent bytes: how a part ended, each position with its parent and
 // its rank, and a file that is refused.
+#![tactic(auto)]
+
 ghost use Rattle.std.specs.Prelude.{[], ◌∷◌, ◌+◌, ◌≤◌, length, take};
 ghost use Rattle.text.specs.Text.{line, Put};
 ghost use Rattle.show_lines.specs.Lines.{told, part_line, position_line, position_lines, all_positions};

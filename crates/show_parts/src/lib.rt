@@ -1,5 +1,7 @@
 // The parts of a show file, each read in its place in the file: part 0 as a scene, any other as an update. The show reads
 // them without their fields, and whoever lists a part reads it with them.
+#![tactic(auto)]
+
 ghost use Rattle.std.specs.Prelude.{◌≤◌, ◌<◌, take};
 ghost use Rattle.scene.specs.Scene.{SceneAnswered};
 ghost use Rattle.update.specs.Update.{UpdateAnswered};

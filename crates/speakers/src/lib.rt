@@ -1,5 +1,7 @@
 // A layout of speakers, kind 9 of the parameters of a whole configuration: passive_metadata.rs. The names begin with the word `p`,
 // those of a speaker with `q`.
+#![tactic(auto)]
+
 ghost use Rattle.std.specs.Prelude.{◌<◌, ◌^◌};
 ghost use Rattle.rules.specs.Met.{Met, Sound};
 ghost use Rattle.speakers.specs.Speakers.{speaker_type, speaker, speakers, layout, labelled_layout};

@@ -1,4 +1,6 @@
 // Text put into bytes that the caller lends, at a place where there is room for it.
+#![tactic(auto)]
+
 pub mod table;
 
 ghost use Rattle.std.specs.Prelude.{◌+◌, ◌≤◌, [], ◌∷◌, ◌++◌, length};

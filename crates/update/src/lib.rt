@@ -1,4 +1,6 @@
 // An update of a scene: passive.rs, `graph_update`.
+#![tactic(auto)]
+
 pub mod undecided;
 
 ghost use Rattle.std.specs.Prelude.{◌≡◌, ◌≤◌, take};

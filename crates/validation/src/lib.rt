@@ -1,4 +1,6 @@
 // Validation of a scene's parents: passive.rs, `validate_graph`.
+#![tactic(auto)]
+
 ghost use Rattle.std.specs.Prelude.{◌≡◌, take, eqb, ◌≤◌};
 ghost use Rattle.rules.specs.Rule.{refused};
 ghost use Rattle.rules.specs.Reading.{reading};

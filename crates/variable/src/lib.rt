@@ -1,5 +1,7 @@
 // Fields whose length the bits themselves tell, or another field: escaped numbers, payloads and labels. Each is one field,
 // made after the last of its bits.
+#![tactic(auto)]
+
 ghost use Rattle.std.specs.Prelude.{◌≡◌, ◌<◌, ◌^◌};
 ghost use Rattle.rules.specs.Derived.{is_full, parts, escaped, passive_bits, label_bytes, label};
 ghost use Rattle.rules.specs.Met.{Met, MetByWords, Sound};
