@@ -5,7 +5,7 @@ ghost use Rattle.std.specs.Prelude.{◌≡◌, ◌≤◌, length};
 ghost use Rattle.digits.specs.Digits.{no_number, digits_number, number_in};
 
 // A number, 0 unless it is valid.
-#[derive(Drop)]
+#[derive(Clone, Copy)]
 pub struct Number {
     pub valid: bool,
     pub value: u64,

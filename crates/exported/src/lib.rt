@@ -10,7 +10,7 @@ use rules::{Answer, Outcome};
 // An answer: the outcome is 0 if read, 1 if refused and 2 if stopped, and the number 0 if read. Counted are the fields of a
 // reading, or the bytes of a name's text.
 #[repr(C)]
-#[derive(Drop)]
+#[derive(Clone, Copy)]
 pub struct GatewayAnswer {
     pub outcome: u64,
     pub number: u64,

@@ -11,7 +11,7 @@ use reader::Taken;
 use rules::{FieldValue, State};
 
 // A flag that was read, and the reading after it. If the reading has ended, the flag says nothing.
-#[derive(Drop)]
+#[derive(Clone, Copy)]
 pub struct Flagged {
     pub state: State,
     pub value: bool,

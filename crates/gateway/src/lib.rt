@@ -18,7 +18,7 @@ use position::PositionSyntax;
 
 // A scene: its answer, the number of its positions and their shapes.
 #[repr(C)]
-#[derive(Drop)]
+#[derive(Clone, Copy)]
 pub struct GatewayScene {
     pub answer: GatewayAnswer,
     pub count: usize,

@@ -11,7 +11,7 @@ use position::PositionSyntax;
 use rules::{Answer, Outcome};
 
 // What came of reading a part: how it ended, or why it is not read.
-#[derive(Drop)]
+#[derive(Clone, Copy)]
 pub enum PartAnswer {
     Ended(Answer),
     NoPart,

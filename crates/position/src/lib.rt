@@ -12,7 +12,7 @@ use rules::{Field, State, leaf};
 
 // The encoding shape of one scene position, which crosses to C as it is.
 #[repr(C)]
-#[derive(Drop)]
+#[derive(Clone, Copy)]
 pub struct PositionSyntax {
     pub parent_dynamic: bool,
     pub range_dynamic: bool,
@@ -23,7 +23,7 @@ pub struct PositionSyntax {
 }
 
 // A shape that was read, and the reading after it.
-#[derive(Drop)]
+#[derive(Clone, Copy)]
 pub struct TakenShape {
     pub state: State,
     pub shape: PositionSyntax,

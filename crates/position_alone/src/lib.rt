@@ -15,7 +15,7 @@ use position::{PositionSyntax, TakenShape};
 use rules::{Answer, State, block};
 
 // What a position reading called alone answers: the shape is as it came unless it was read.
-#[derive(Drop)]
+#[derive(Clone, Copy)]
 pub struct PositionAnswer {
     pub answer: Answer,
     pub shape: PositionSyntax,

@@ -13,7 +13,7 @@ use position::{PositionSyntax, TakenShape};
 use rules::{Field, State, block, leaf};
 
 // Shapes that were read, and the reading after them.
-#[derive(Drop)]
+#[derive(Clone, Copy)]
 pub struct TakenShapes {
     pub state: State,
     pub shapes: [PositionSyntax; 63],

@@ -12,7 +12,7 @@ use reader::Taken;
 use rules::{Field, State, leaf};
 
 // A sum in binary32, and the reading after it.
-#[derive(Drop)]
+#[derive(Clone, Copy)]
 struct Summed {
     state: State,
     sum: f32,

@@ -6,7 +6,7 @@ ghost use Rattle.ranks.specs.Rank.{chain, rank_of, verdict};
 
 // What a chain of parents does: it ends at 0, after as many positions as the rank says; it leaves the declared
 // numbers; or it returns to a position.
-#[derive(Drop)]
+#[derive(Clone, Copy)]
 pub enum Chain {
     Ends(usize),
     Leaves,

@@ -11,7 +11,7 @@ ghost use Rattle.reader.specs.Reader.{TookBits, Skipped};
 use rules::{Outcome, State};
 
 // A number that was read, and the reading after it. If the reading has ended, the number says nothing.
-#[derive(Drop)]
+#[derive(Clone, Copy)]
 pub struct Taken {
     pub state: State,
     pub value: u64,

@@ -13,7 +13,7 @@ use rules::{Answer, State};
 use text::TextAnswer;
 
 // How many records were run and were wrong, and whether more may follow.
-#[derive(Drop)]
+#[derive(Clone, Copy)]
 struct Tally {
     run: u64,
     wrong: u64,
@@ -41,7 +41,7 @@ impl Tally {
 }
 
 // An answer, and whether the shapes after the call are the recorded ones.
-#[derive(Drop)]
+#[derive(Clone, Copy)]
 struct Ran {
     answer: Answer,
     same: bool,

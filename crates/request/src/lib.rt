@@ -8,7 +8,7 @@ ghost use Rattle.request.specs.Request.{number_or_zero, part_request, request_of
 use digits::Number;
 
 // The bit at which a scene or a metadata configuration begins; or a part of a show, and the bit of it; or nothing known.
-#[derive(Drop)]
+#[derive(Clone, Copy)]
 pub enum Request {
     Scene(usize),
     Metadata(usize),

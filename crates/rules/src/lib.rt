@@ -10,7 +10,7 @@ pub mod leaf;
 
 // How a reading ended, with document 01's number. In a state, `Read` is all that was asked so far. A number of 16 bits
 // leaves a state without gaps: a gap of seven bytes is copied in two pieces, slowly, wherever a state is.
-#[derive(Drop)]
+#[derive(Clone, Copy)]
 pub enum Outcome {
     Read,
     Refused(u16),
@@ -31,7 +31,7 @@ impl Outcome {
 
 // `Parser` and `BitReader` by value: the next bit, the end of the window, the fields counted, whether they are
 // recorded, and the outcome. A state that was refused or stopped is left alone by every further step.
-#[derive(Drop)]
+#[derive(Clone, Copy)]
 pub struct State {
     pub position: usize,
     pub end: usize,
@@ -41,7 +41,7 @@ pub struct State {
 }
 
 // What every reading answers: the outcome with its number, the bit position, and the fields counted.
-#[derive(Drop)]
+#[derive(Clone, Copy)]
 pub struct Answer {
     pub outcome: Outcome,
     pub position: usize,
@@ -49,7 +49,7 @@ pub struct Answer {
 }
 
 // What a field holds: a flag, a number, or a payload of so many bits or bytes.
-#[derive(Drop)]
+#[derive(Clone, Copy)]
 pub enum FieldValue {
     Flag(bool),
     Number(u64),
@@ -58,7 +58,7 @@ pub enum FieldValue {
 }
 
 // `ConfigField`: a recorded field, with its name word.
-#[derive(Drop)]
+#[derive(Clone, Copy)]
 pub struct Field {
     pub bit_offset: usize,
     pub bit_length: usize,
@@ -67,7 +67,7 @@ pub struct Field {
 }
 
 // A field of the lent words, or nothing where they hold none.
-#[derive(Drop)]
+#[derive(Clone, Copy)]
 pub enum Found {
     Field(Field),
     Nothing,

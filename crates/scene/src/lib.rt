@@ -11,7 +11,7 @@ use rules::{Answer, State, block, leaf};
 
 // What a scene answers: the number of its positions, and their shapes, of which those beyond it are the default. Unless
 // it was read there are none.
-#[derive(Drop)]
+#[derive(Clone, Copy)]
 pub struct SceneAnswer {
     pub answer: Answer,
     pub count: usize,
@@ -19,7 +19,7 @@ pub struct SceneAnswer {
 }
 
 // The shapes that were read with their number, and the reading after them.
-#[derive(Drop)]
+#[derive(Clone, Copy)]
 struct TakenScene {
     state: State,
     count: usize,

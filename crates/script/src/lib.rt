@@ -9,7 +9,7 @@ use libc::STDIN_FILENO;
 use rules::State;
 
 // An operation: its code (1 byte), how often it is repeated (2), three numbers (4 each) and a name word (8).
-#[derive(Drop)]
+#[derive(Clone, Copy)]
 struct Operation {
     code: u64,
     times: u64,

@@ -9,7 +9,7 @@ ghost use Rattle.text.specs.Text.{decimal, Put};
 use rules::Outcome;
 
 // What writing a text answers: the outcome with its number, the position 0, and the length of the text.
-#[derive(Drop)]
+#[derive(Clone, Copy)]
 pub struct TextAnswer {
     pub outcome: Outcome,
     pub position: usize,

@@ -11,7 +11,7 @@ use position::PositionSyntax;
 use rules::{Answer, State};
 
 // What an update answers: the shapes, which are as they came unless it was read.
-#[derive(Drop)]
+#[derive(Clone, Copy)]
 pub struct UpdateAnswer {
     pub answer: Answer,
     pub shapes: [PositionSyntax; 63],
