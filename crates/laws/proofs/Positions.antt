@@ -12,6 +12,7 @@ use Rattle.rules.specs.declared.FieldValue.{FieldValue}
 use Rattle.rules.specs.Rule.{Rule, ends, End, refused, ◌>>=◌, ◌>>◌, position, end, bits, skip, set_end, field}
 use Rattle.rules.specs.Reading.{Input, reading, ended_at, has_room}
 use Rattle.rules.specs.Derived.{take, flag, parts, escaped, passive_bits, label_bytes, label, demand, remaining, count, entry}
+use Rattle.bits.specs.Bits.{bits_at}
 use Rattle.laws.specs.Positions.{Ones, total, NonZero}
 use Rattle.rules.proofs.Bind.{bind}
 
@@ -51,7 +52,7 @@ module _ (i : Input) (e n : ℕ) where
   parts_cut value [] w ws p o h = let l : e - p < w = omega arith in rw (add-zero, lt-ltb _ _ l)
   parts_cut value (u ∷ us) w ws p o h =
       let q : p + u + total us ≡ p + total (u ∷ us) = omega arith in
-      rw (le-ltb _ _ o.0, o.1, ← q) (parts_cut _ us w ws (p + u) o.2 (omega arith))
+      rw (le-ltb _ _ o.0, o.1, ← q) (parts_cut (value + bits_at i.bytes p u) us w ws (p + u) o.2 (omega arith))
 
   pub escaped_cut : (name : ℕ) (us : List ℕ) (w : ℕ) (ws : List ℕ) (p : ℕ) → Ones i.bytes e p us → e - (p + total us) < w →
       reading i (escaped name (us ++ w ∷ ws)) p e n ≡ ended_at (refused 3) (p + total us) e

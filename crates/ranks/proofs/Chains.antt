@@ -1,5 +1,5 @@
 -- The laws of computed chains and numbers, as the code's loops go through them.
-use Prim.Native.Nat.{ℕ, suc, ◌+◌, ◌-◌, ◌≤◌, ◌<◌}
+use Prim.Native.Nat.{ℕ, zero, suc, ◌+◌, ◌-◌, ◌≤◌, ◌<◌}
 use mathlib.Core.Path.{◌≡◌}
 use mathlib.Core.List.{List}
 use native.Mathlib.Omega.{arith}
@@ -18,10 +18,12 @@ module _ (ps : List ℕ) where
 
   pub climb_end : (f k i : ℕ) → 0 < f → i ≡ 0 → climb ps f k i ≡ Ends k
   unfolding climb
+  climb_end zero k i l e = elim l [ ]
   climb_end (suc f) k i l e = rw e
 
   pub climb_out : (f k i : ℕ) → 0 < f → length ps < i → climb ps f k i ≡ Leaves
   unfolding climb
+  climb_out zero k i l h = elim l [ ]
   climb_out (suc f) k i l h = simp (ne_eqb i 0 (λ e. omega arith), lt-leb i (length ps) h)
 
   pub climb_up : (f k i : ℕ) → Declared ps i → climb ps (suc f) k i ≡ climb ps f (suc k) (parent_of ps i)

@@ -24,7 +24,7 @@ pub fn put(out: &mut [u8], at: usize, text: &[u8]) -> usize
     requires { at + length text.now ≤ length out.old }
     ensures { Put out.old at text.now result out.new }
 {
-    bytes::copy(text, &mut out[at..]);
+    out[at..at + text.len()].copy_from_slice(text);
     at + text.len()
 }
 

@@ -9,7 +9,7 @@ fn row(table: &[u8], n: usize) -> [u8; 59]
 {
     let start = 59 * n;
     let mut row = [0u8; 59];
-    bytes::copy(&table[start..start + 59], &mut row);
+    row.copy_from_slice(&table[start..start + 59]);
     row
 }
 

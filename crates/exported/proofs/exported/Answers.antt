@@ -1,0 +1,5 @@
+use borrow.Author.Rules.{rules}
+use Rattle.exported.proofs.exported.Goals as goal
+
+pub returns : goal.returns
+returns c = c.told.ensures

@@ -1,0 +1,27 @@
+use Prim.Native.Nat.{suc, ◌≤◌, ◌-◌}
+use mathlib.Core.Path.{◌≡◌, sym, ◌∙◌}
+use native.Mathlib.Nat.{sub-zero}
+use borrow.Author.Rules.{rules}
+use lib.ListN.{length}
+use Rattle.ranks.specs.Rank.{climb, chain}
+use Rattle.ranks.proofs.Chains.{climb_none, climb_end, climb_out, climb_turn}
+use Rattle.ranks.proofs.climb.Goals as goal
+
+pub loop-passed-init : goal.loop-passed-init
+loop-passed-init c = (search rules, rw sub-zero)
+
+pub returns-then-at-eq0 : goal.returns-then-at-eq0
+returns-then-at-eq0 c = sym (climb_end _ _ _ _ (search rules) c.if-at-eq0.true) ∙ c.loop-passed.invariant.1
+
+pub returns-then-at-parents : goal.returns-then-at-parents
+returns-then-at-parents c = sym (climb_out _ _ _ _ (search rules) c.if-at-parents.true) ∙ c.loop-passed.invariant.1
+
+pub loop-passed-preserved : goal.loop-passed-preserved
+loop-passed-preserved c = (
+  search rules,
+  sym (climb_turn _ _ _ _ (search rules) (record { from = search rules; to = search rules }))
+      ∙ c.loop-passed.invariant.1,
+)
+
+pub returns : goal.returns
+returns c = sym (climb_none _ _ _ _ (search rules)) ∙ c.loop-passed.invariant.1

@@ -1,0 +1,16 @@
+use Prim.Native.Nat.{suc, ◌≤◌, ◌-◌}
+use mathlib.Core.Path.{◌≡◌, sym, ◌∙◌}
+use native.Mathlib.Nat.{sub-zero}
+use borrow.Author.Rules.{rules}
+use lib.ListN.{length}
+use Rattle.ranks.specs.Rank.{climb, chain}
+use Rattle.ranks.proofs.Chains.{climb_none, climb_end, climb_out, climb_turn}
+use Rattle.ranks.proofs.climb.Given as goal
+
+-- what is left of the chain, looked at for what is left of the numbers, is the whole chain's answer
+abbrev pub invariant-loop-passed : goal.invariant-loop-passed
+invariant-loop-passed l =
+    (l.passed ≤ suc (length l.parents)) × (climb l.parents (suc (length l.parents) - l.passed) l.passed l.at ≡ chain l.parents l.first)
+
+abbrev pub decreases-loop-passed : goal.decreases-loop-passed
+decreases-loop-passed l = suc (length l.parents) - l.passed

@@ -1,0 +1,16 @@
+use Prim.Native.Nat.{◌≤◌, ◌-◌}
+use mathlib.Core.Path.{◌≡◌, sym, ◌∙◌}
+use native.Mathlib.Nat.{sub-zero}
+use borrow.Author.Rules.{rules}
+use lib.ListN.{length}
+use Rattle.ranks.specs.declared.Chain.TheVariants.{Ends, Leaves, Returns}
+use Rattle.ranks.specs.Rank.{judge, verdict}
+use Rattle.ranks.proofs.Chains.{judge_turn, judge_end}
+use Rattle.ranks.proofs.judge.Given as goal
+
+-- the number is that by the positions after `i`
+abbrev pub invariant-loop-i : goal.invariant-loop-i
+invariant-loop-i l = (l.i ≤ length l.parents) × (judge l.parents (length l.parents - l.i) l.i ≡ verdict l.parents)
+
+abbrev pub decreases-loop-i : goal.decreases-loop-i
+decreases-loop-i l = length l.parents - l.i
