@@ -15,34 +15,28 @@ loop-i-init c = (omega arith, omega arith, left_by_bytes_all (search rules))
 pub read-part-requires : goal.read-part-requires
 read-part-requires c = record { sound = c.loop-i.invariant.2.sound; width_bound = omega (arith, width_small c.requires.widths _ c.loop-i-test.true) }
 
--- the part just read
-small : (c : goal.After-struct_known-1) → c.read-part.result.value < 2 ^ 20
-small c =
-    let pre = c.requires.sound in
-    part_small pre.1 _ c.loop-i-test.true c.read-part.ensures.small
-
 pub overflow_add-value : goal.overflow_add-value
-overflow_add-value c = omega (arith, small c)
+overflow_add-value c = omega (arith, part_small c.requires.widths _ c.loop-i-test.true c.read-part.ensures.small)
 
 pub is_full-requires : goal.is_full-requires
 is_full-requires c = omega (arith, width_small c.requires.widths _ c.loop-i-test.true)
 
 pub loop-i-preserved : goal.loop-i-preserved
 loop-i-preserved c =
-    let long : length c.args.t3 ≡ 3 = search rules in (
+    let long : length c.args.widths ≡ 3 = search rules in (
       omega arith,
-      omega (arith, small c),
+      omega (arith, part_small c.requires.widths _ c.loop-i-test.true c.read-part.ensures.small),
       part_more _ _ _ long c.loop-i.invariant.2 c.loop-i-test.true c.read-part.ensures.met c.is_full.ensures c.if-is_full.true,
     )
 
 pub returns-else-is_full : goal.returns-else-is_full
 returns-else-is_full c =
-    let long : length c.args.t3 ≡ 3 = search rules in
+    let long : length c.args.widths ≡ 3 = search rules in
     took_bits
     (part_last _ _ _ long c.loop-i.invariant.2 c.loop-i-test.true c.read-part.ensures.met c.is_full.ensures c.if-is_full.false)
-    (omega (arith, small c))
+    (omega (arith, part_small c.requires.widths _ c.loop-i-test.true c.read-part.ensures.small))
 
 pub returns : goal.returns
 returns c =
-    let long : length c.args.t3 ≡ 3 = search rules in
+    let long : length c.args.widths ≡ 3 = search rules in
     took_bits (part_none _ _ _ long c.loop-i.invariant.2 c.loop-i-test.false) (omega arith)
