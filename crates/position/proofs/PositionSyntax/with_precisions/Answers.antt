@@ -1,0 +1,6 @@
+use native.Mathlib.Omega.{arith}
+use borrow.Author.Rules.{rules}
+use Rattle.position.proofs.PositionSyntax.with_precisions.Goals as goal
+
+pub returns : goal.returns
+returns c = record { same = cc; shaped = record { position = omega arith; rotation = omega arith } }
