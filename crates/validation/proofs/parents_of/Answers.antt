@@ -15,10 +15,10 @@ pub loop-i-preserved : goal.loop-i-preserved
 loop-i-preserved c = (
   search rules,
   simp length-set c.loop-i.invariant.1,
-  copy_more 0 (parents c.args.t1) c.loop-i.out c.loop-i.i _ (omega arith) (sym (get_or-map _ c.args.t1 c.loop-i.i _)) c.loop-i.invariant.2,
+  copy_more 0 (parents c.args.shapes) c.loop-i.out c.loop-i.i _ (omega arith) (sym (get_or-map _ c.args.shapes c.loop-i.i _)) c.loop-i.invariant.2,
 )
 
 pub returns : goal.returns
 returns c =
-    let long : length c.args.t1 ≡ 63 = search rules in
-    ext_get_or 0 c.loop-i.out _ (c.loop-i.invariant.1 ∙ sym (length-map c.args.t1 _ ∙ long)) (λ i l. c.loop-i.invariant.2 i (omega arith))
+    let long : length c.args.shapes ≡ 63 = search rules in
+    ext_get_or 0 c.loop-i.out _ (c.loop-i.invariant.1 ∙ sym (length-map c.args.shapes _ ∙ long)) (λ i l. c.loop-i.invariant.2 i (omega arith))
