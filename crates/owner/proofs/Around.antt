@@ -4,7 +4,7 @@ use mathlib.Core.Path.{ap, subst}
 use mathlib.Core.List.{List, [], ◌∷◌}
 use mathlib.Core.Logic.{∥∥₁_map}
 use seplogic.Ra.Ura.{Ura}
-use seplogic.Ra.TreeShare.{full_share}
+use base.Fraction.{full_share}
 use mir.Val.{Val}
 use base.Logic.{SProp, ent, sep, emp, emp∗, id⊢, snd∗}
 use base.Fml.{Share, Fml, ftrue}
@@ -146,7 +146,7 @@ module _ (n : ℕ) (ks : List (Kind n)) (R : RattleType) (low : R.Denot → Val)
 
     -- `met` is the function's own theorem, so that E and what is required are its contract
     pub runs : (requires : Requires n ks R) →
-        Meets w.𝓛 (T n ks R).signature (w.𝓡.run ρ) (written w (T n ks R) (promised n ks R requires E) ρ) →
+        Meets w.𝓛 (T n ks R).signature (w.𝓡.returns ρ) (written w (T n ks R) (promised n ks R requires E) ρ) →
         Made w.𝓛 ks → (xs : Givens ks) → Granted n ks R requires (contents ks xs) → Fits ks xs →
         (σ : Memory) (F : SProp w.𝓤) → Has σ xs F → ∥ Run xs σ F ∥₁
     runs requires met made xs grant fits σ F has = ∥∥₁_map (owner n ks R w ρ E requires xs σ F met made grant fits

@@ -4,12 +4,12 @@ use Prim.Native.Nat.{ℕ, zero, suc, ◌+◌}
 use mathlib.Core.Path.{◌≡◌, refl, ap, subst}
 use mathlib.Core.List.{List, [], ◌∷◌, ◌++◌}
 use seplogic.Ra.Ura.{Ura}
-use seplogic.Ra.TreeShare.{full_share}
+use base.Fraction.{full_share}
 use lib.ListN.{length}
 use mir.Syntax.{named}
 use mir.Val.{Val}
 use base.Logic.{SProp, ent, sep, ex, emp, via, id⊢}
-use base.Fml.{GName, Share, Fml, ftrue, fsep, feq, flft, fdead, flent, fres}
+use base.Fml.{GName, Share, Fml, ftrue, fsep, flft, fdead, flent, fhide}
 use types.Logic.{Logic, sem}
 use types.Kit.{‵, raw, ◌⊛◌, some, later, ◌$◌, ◌∵◌, !, qed, by, move, use0, use1, use3, split, pick, drop, fsplit, fjoin, feq_l, feq_i}
 use types.Kit.{frame, await, updating, now as at_once, show, done}
@@ -19,14 +19,16 @@ use types.Share.{parts, arr_parts}
 use contract.Monad.{fact, fact_i}
 use contract.Lifetimes.{Lfts, Shares, Within, lft_at, toks}
 use denote.RattleType.{RattleType, Denots, Valss, flat, owns}
-use denote.Memory.{part_at, mem, shares}
+use denote.Memory.{part_at, mem, shares, shared_of}
 use denote.Array.{Array}
 use denote.ArrayMemory.{Single, Array-apart, Array-whole}
 use denote.Laws.{Is, Makes}
 use denote.Exit.{yes, Last, left}
-use denote.Slice.{Room, finally}
+use denote.Shadow.{pure_i}
+use denote.Slice.{Room, shr_slice_at, elements_shared}
 use denote.Steps.{heard}
-use denote.Lend.{Held, lends_slice, slice_back, lends_shr_slice, lends_ref, ref_back}
+use denote.Lend.{Held, lends_slice, slice_back, lends_ref, ref_back}
+use denote.Lends.{Lent, Lent-nothing, Lent-both}
 use denote.Signature.{Slot, plain, mut_ref_to, mut_slice_of, shr_slice_of, types_at}
 use denote.Triple.End.{all, Fins, lasts_of}
 use Rattle.owner.specs.Cells.{Cells, slice, pointer}
@@ -129,7 +131,7 @@ module _ {n : ℕ} where
 
   -- ---- not for a reader of the theorem: what goes on under it
   abbrev pub Name1 : Kind n → Type 0
-  Name1 (shared j ok R) = GName
+  Name1 (shared j ok R) = Unit {0}
   Name1 (mutable j ok R) = GName
   Name1 (reference j ok R one m) = GName
   Name1 (value R vals) = Unit {0}
@@ -141,7 +143,7 @@ module _ {n : ℕ} where
   module _ (κs : Lfts n) where
     -- the denotation of what is passed
     abbrev pub denot1 : (k : Kind n) → Given1 k → Name1 k → ((slot k).row κs).Denot
-    denot1 (shared j ok R) c γ = record { ref_ptr = (c.1.block, c.1.offset); ghost_name = γ; now = c.1.held }
+    denot1 (shared j ok R) c γ = record { ref_ptr = (c.1.block, c.1.offset); now = c.1.held }
     denot1 (mutable j ok R) c γ = record { ref_ptr = (c.block, c.offset); ghost_name = γ; now = c.held }
     denot1 (reference j ok R one m) c γ = record { ref_ptr = (c.block, c.offset); ghost_name = γ; now = c.held }
     denot1 (value R vals) x γ = x
@@ -156,8 +158,7 @@ module _ {n : ℕ} where
 
     -- the lender's part
     abbrev lender1 : (k : Kind n) → Given1 k → Name1 k → Fml
-    lender1 (shared j ok R) c γ =
-        flent (lft_at n j ok κs) ((arr_parts (shares R) (length c.1.held)).part c.0 c.1.held c.1.block c.1.offset)
+    lender1 (shared j ok R) c γ = flent (lft_at n j ok κs) (parts (mem R) (shares R) c.0 c.1.held c.1.block c.1.offset)
     lender1 (mutable j ok R) c γ = flent (lft_at n j ok κs) (Held R (length c.held) c.block c.offset γ)
     lender1 (reference j ok R one m) c γ = flent (lft_at n j ok κs) (Body (mem (Array R m)) c.block c.offset γ)
     lender1 (value R vals) x γ = ftrue
@@ -218,10 +219,6 @@ module _ {M : Type 1} {𝓤 : Ura M} (𝓛 : Logic 𝓤) where
       ent 𝓤 ⟦ parts (mem R) (shares R) t xs b o ⟧ ⟦ (arr_parts (shares R) (length xs)).part t xs b o ⟧
   parts_in R t xs b o = qed 𝓛 (‵ (parts (mem R) (shares R) t xs b o) ∷ []) ∵ feq_i ! ℕ (length xs) (length xs) refl $ done !
 
-  parts_out : (R : RattleType) (t : Share) (xs : List R.Denot) (b o : ℕ) →
-      ent 𝓤 ⟦ (arr_parts (shares R) (length xs)).part t xs b o ⟧ ⟦ parts (mem R) (shares R) t xs b o ⟧
-  parts_out R t xs b o = qed 𝓛 (‵ ((arr_parts (shares R) (length xs)).part t xs b o) ∷ []) ∵ fsplit ! $ drop ! $ done !
-
   cells_in : (R : RattleType) (xs : List R.Denot) (b o : ℕ) → ent 𝓤 ⟦ parts (mem R) (shares R) full_share xs b o ⟧ ⟦ cells (mem R) xs b o ⟧
   cells_in R xs b o = subst (λ (P : Fml). ent 𝓤 ⟦ P ⟧ ⟦ cells (mem R) xs b o ⟧) (cells_parts R xs b o) (id⊢ 𝓤 ⟦ cells (mem R) xs b o ⟧)
 
@@ -271,10 +268,22 @@ module _ {M : Type 1} {𝓤 : Ura M} (𝓛 : Logic 𝓤) where
   one_over (suc n) (suc j) ok αs = one_over_there n j ok αs (one_over n j ok αs.1)
 
   -- ---- what is passed is lent, and taken back
+  -- any share of a value of the type is lent as `&`
+  abbrev pub Lends : RattleType → Type 1
+  Lends R = (t : Share) (x : R.Denot) (b o : ℕ) → Lent 𝓛 (part_at R t x b o) (shared_of R x b o)
+
+  -- then so is any share of values side by side
+  lends_each : (R : RattleType) → Lends R → (t : Share) (xs : List R.Denot) (b o : ℕ) →
+      Lent 𝓛 (parts (mem R) (shares R) t xs b o) (elements_shared R xs b o)
+  lends_each R l t [] b o = Lent-nothing 𝓛
+  lends_each R l t (x ∷ xs) b o =
+      Lent-both 𝓛 (part_at R t x b o) (parts (mem R) (shares R) t xs b (o + (mem R).size)) (shared_of R x b o)
+      (elements_shared R xs b (o + (mem R).size)) (l t x b o) (lends_each R l t xs b (o + (mem R).size))
+
   module _ {n : ℕ} where
-    -- plain data is made of its machine values alone
+    -- the elements of a shared slice can be lent, and plain data is made of its machine values alone
     abbrev pub Made1 : Kind n → Type 1
-    Made1 (shared j ok R) = Unit {1}
+    Made1 (shared j ok R) = Lends R
     Made1 (mutable j ok R) = Unit {1}
     Made1 (reference j ok R one m) = Unit {1}
     Made1 (value R vals) = Makes 𝓛 R (Is R)
@@ -285,27 +294,33 @@ module _ {M : Type 1} {𝓤 : Ura M} (𝓛 : Logic 𝓤) where
 
     module _ (κs : Lfts n) where
       abbrev own1 : (k : Kind n) → Given1 k → Name1 k → Fml
-      own1 k x γ = ((slot k).row κs).own (denot1 κs k x γ) (words1 k x)
+      own1 k x γ = ((slot k).row κs).own_val (denot1 κs k x γ) (words1 k x)
 
       abbrev own_all : (ks : List (Kind n)) → Givens ks → Names ks → Fml
       own_all ks xs γs = owns (types_at (slots ks) κs) (denots κs ks xs γs) (wordss κs ks xs)
 
       lends1 : (k : Kind n) → Made1 k → (x : Given1 k) → Fits1 k x → ent 𝓤 ⟦ before1 k x ⟧
           (H.⇛ (ex 𝓤 (λ (γ : Name1 k). ⟦ own1 k x γ ⟧ ∗ ⟦ lender1 κs k x γ ⟧)))
-      lends1 (shared j ok R) m c g = via 𝓤 ⟦ (arr_parts (shares R) (length c.1.held)).part c.0 c.1.held c.1.block c.1.offset ⟧
-          (parts_in R c.0 c.1.held c.1.block c.1.offset)
-          (lends_shr_slice 𝓛 R (named j) (lft_at n j ok κs) c.0 c.1.held c.1.block c.1.offset g)
+      lends1 (shared j ok R) m c g =
+          let P = parts (mem R) (shares R) c.0 c.1.held c.1.block c.1.offset in
+          let κ = lft_at n j ok κs in
+          let hidden = fhide (elements_shared R c.1.held c.1.block c.1.offset κ) in
+          let at = shr_slice_at R (denot1 κs (shared j ok R) c tt) (words1 (shared j ok R) c) in
+          qed 𝓛 (‵ P ∷ []) ∵ updating ! $
+          use1 𝓛 (later (‵ hidden ⊛ ‵ (flent κ P))) (lends_each R m c.0 c.1.held c.1.block c.1.offset κ) $ await ! tt $ split ! $
+          at_once ! $ show ! (λ (γ : Unit {0}). ⟦ own1 (shared j ok R) c γ ⟧ ∗ ⟦ lender1 κs (shared j ok R) c γ ⟧) tt $
+          pure_i ! at (tt, (tt, tt)) (refl, g) $ fjoin ! $ done !
       lends1 (mutable j ok R) m c g = via 𝓤 ⟦ cells (mem R) c.held c.block c.offset ⟧ (cells_in R c.held c.block c.offset)
           (lends_slice 𝓛 R (named j) (lft_at n j ok κs) c.held c.block c.offset g)
       lends1 (reference j ok R one m) made c g =
-          let parts-now = parts (mem R) (shares R) full_share c.held c.block c.offset in
-          let array-part : ℕ → Fml = λ k. (arr_parts (shares R) k).part full_share c.held c.block c.offset in
-          via 𝓤 ⟦ array-part m ⟧ (subst (λ (k : ℕ). ent 𝓤 ⟦ parts-now ⟧ ⟦ array-part k ⟧) g (parts_in R full_share c.held c.block c.offset))
+          let parts_now = parts (mem R) (shares R) full_share c.held c.block c.offset in
+          let array_part : ℕ → Fml = λ k. (arr_parts (shares R) k).part full_share c.held c.block c.offset in
+          via 𝓤 ⟦ array_part m ⟧ (subst (λ (k : ℕ). ent 𝓤 ⟦ parts_now ⟧ ⟦ array_part k ⟧) g (parts_in R full_share c.held c.block c.offset))
           (via 𝓤 ⟦ part_at (Array R m) full_share c.held c.block c.offset ⟧
           (Array-whole 𝓛 R full_share m c.held c.block c.offset)
           (lends_ref 𝓛 (Array R m) (named j) (lft_at n j ok κs) c.held c.block c.offset))
-      lends1 (value R vals) m x g = qed 𝓛 (‵ ftrue ∷ []) ∵ updating ! $ at_once ! $ show ! (λ (γ : Unit {0}). ⟦ R.own x (vals x) ⟧ ∗ ⟦ ftrue ⟧) tt $
-          use0 𝓛 (‵ (R.own x (vals x))) (m x (vals x) g) $ done !
+      lends1 (value R vals) m x g = qed 𝓛 (‵ ftrue ∷ []) ∵ updating ! $ at_once ! $ show ! (λ (γ : Unit {0}). ⟦ R.own_val x (vals x) ⟧ ∗ ⟦ ftrue ⟧) tt $
+          use0 𝓛 (‵ (R.own_val x (vals x))) (m x (vals x) g) $ done !
 
       lends_step : (k : Kind n) (ks : List (Kind n)) (xs : Givens (k ∷ ks))
           → ent 𝓤 ⟦ before1 k xs.0 ⟧ (H.⇛ (ex 𝓤 (λ (γ : Name1 k). ⟦ own1 k xs.0 γ ⟧ ∗ ⟦ lender1 κs k xs.0 γ ⟧)))
@@ -349,16 +364,15 @@ module _ {M : Type 1} {𝓤 : Ura M} (𝓛 : Logic 𝓤) where
         → ent 𝓤 (⟦ O ⟧ ∗ ⟦ lender1 κs k x γ ⟧ ∗ ⟦ last1 k x γ l ⟧) (H.⇛ (Went1 k x (left_of1 κs k x γ l)))
     backs1 (shared j ok R) c γ l =
         let κ = lft_at n j ok κs in
-        let P = (arr_parts (shares R) (length c.1.held)).part c.0 c.1.held c.1.block c.1.offset in
+        let P = parts (mem R) (shares R) c.0 c.1.held c.1.block c.1.offset in
         qed 𝓛 (‵ O ∷ ‵ (flent κ P) ∷ ‵ ftrue ∷ []) ∵ updating ! $ use1 𝓛 (‵ O ⊛ ‵ (fdead κ)) (one_over n j ok αs) $ split ! $ move ! (1 ∷ 2 ∷ []) $
-        lent_back ! tt $
-        use1 𝓛 (‵ (parts (mem R) (shares R) c.0 c.1.held c.1.block c.1.offset))
-        (parts_out R c.0 c.1.held c.1.block c.1.offset) $ at_once ! $ move ! (1 ∷ 0 ∷ []) $ frame ! $ frame ! $
+        lent_back ! tt $ at_once ! $ move ! (1 ∷ 0 ∷ []) $ frame ! $ frame ! $
         drop ! $ by ! (fact_i 𝓤 (Unit {0}) (emp 𝓤) tt)
     backs1 (mutable j ok R) c γ l =
         let κ = lft_at n j ok κs in
         let len = length c.held in
-        qed 𝓛 (‵ O ∷ ‵ (flent κ (Held R len c.block c.offset γ)) ∷ ‵ (fsep (finally R γ l) (feq ℕ (length l) len)) ∷ []) ∵ updating ! $
+        qed 𝓛 (‵ O ∷ ‵ (flent κ (Held R len c.block c.offset γ)) ∷ ‵ (last1 (mutable j ok R) c γ l) ∷ []) ∵ updating ! $
+        move ! (2 ∷ []) $ fsplit ! $ move ! (1 ∷ []) $ drop ! $ move ! (1 ∷ 2 ∷ 0 ∷ []) $
         use1 𝓛 (‵ O ⊛ ‵ (fdead κ)) (one_over n j ok αs) $ split ! $ move ! (3 ∷ []) $ fsplit ! $ move ! (3 ∷ 4 ∷ 0 ∷ []) $
         use3 𝓛 (later (‵ ((Arr (mem R) len).own_at l c.block c.offset))) (slice_back 𝓛 R κ γ l len c.block c.offset) $ await ! tt $
         fsplit ! $ at_once ! $
@@ -368,7 +382,8 @@ module _ {M : Type 1} {𝓤 : Ura M} (𝓛 : Logic 𝓤) where
         let κ = lft_at n j ok κs in
         let b = c.block in
         let o = c.offset in
-        qed 𝓛 (‵ O ∷ ‵ (flent κ (Body (mem (Array R m)) b o γ)) ∷ ‵ (fres γ ((Array R m).coded.code l)) ∷ []) ∵ updating ! $
+        qed 𝓛 (‵ O ∷ ‵ (flent κ (Body (mem (Array R m)) b o γ)) ∷ ‵ (last1 (reference j ok R one m) c γ l) ∷ []) ∵ updating ! $
+        move ! (2 ∷ []) $ fsplit ! $ move ! (1 ∷ []) $ drop ! $ move ! (1 ∷ 2 ∷ 0 ∷ []) $
         use1 𝓛 (‵ O ⊛ ‵ (fdead κ)) (one_over n j ok αs) $ split ! $ move ! (1 ∷ 2 ∷ 3 ∷ []) $
         use3 𝓛 (later (‵ (part_at (Array R m) full_share l b o))) (ref_back 𝓛 (Array R m) κ γ l b o) $ await ! tt $
         use1 𝓛 (‵ ((arr_parts (shares R) m).part full_share l b o)) (Array-apart 𝓛 R full_share one m l b o) $ fsplit ! $ at_once ! $

@@ -153,13 +153,13 @@ module _ (n : ℕ) (ks : List (Kind n)) (R : RattleType) where
       Settled ls v r = After xs ls ∗ fact 𝓤 (AsMany ks xs ls × Is R r (v ∷ []))
 
       settles : (αs : Fresh n) (γs : Names ks) (ls : Fin αs γs) (v : Val) (r : R.Denot)
-          → ent 𝓤 ((⟦ Lasted αs γs ls ⟧ ∗ (tokens αs ∗ ⟦ R.own r (v ∷ []) ⟧)) ∗ ⟦ Aside αs γs ⟧)
+          → ent 𝓤 ((⟦ Lasted αs γs ls ⟧ ∗ (tokens αs ∗ ⟦ R.own_val r (v ∷ []) ⟧)) ∗ ⟦ Aside αs γs ⟧)
           (H.⇛ (Settled (lefts_of (lifetimes n αs) ks xs γs ls) v r))
       settles αs γs ls v r =
           let m = lefts_of (lifetimes n αs) ks xs γs ls in
-          qed w.𝓛 ((‵ (Lasted αs γs ls) ⊛ (raw (tokens αs) ⊛ ‵ (R.own r (v ∷ [])))) ∷ ‵ (Aside αs γs) ∷ []) ∵ updating ! $
+          qed w.𝓛 ((‵ (Lasted αs γs ls) ⊛ (raw (tokens αs) ⊛ ‵ (R.own_val r (v ∷ [])))) ∷ ‵ (Aside αs γs) ∷ []) ∵ updating ! $
           split ! $ move ! (1 ∷ []) $ split ! $ use1 w.𝓛 (later (‵ (over n αs))) (all_end w.𝓛 n αs) $ await ! tt $ move ! (1 ∷ []) $
-          use1 w.𝓛 (raw (fact 𝓤 (Is R r (v ∷ [])))) (shows_shadow w.𝓛 (R.own r (v ∷ []))) $ heard ! (Is R r (v ∷ [])) (λ is.
+          use1 w.𝓛 (raw (fact 𝓤 (Is R r (v ∷ [])))) (shows_shadow w.𝓛 (R.own_val r (v ∷ []))) $ heard ! (Is R r (v ∷ [])) (λ is.
           -- [over; the last values; the lender's part]
           move ! (0 ∷ 2 ∷ 1 ∷ []) $
           use3 w.𝓛 (later (‵ (over n αs) ⊛ (‵ (after ks xs m) ⊛ raw (fact 𝓤 (AsMany ks xs m))))) (backs_all w.𝓛 n αs ks xs γs ls) $ await ! tt $
@@ -178,7 +178,7 @@ module _ (n : ℕ) (ks : List (Kind n)) (R : RattleType) where
           Holds t.after (Settled (lefts_of (lifetimes n αs) ks xs γs t.last) t.value t.result ∗ F)
       stands_so αs γs t =
           let L = ⟦ Lasted αs γs t.last ⟧ in
-          let B = tokens αs ∗ ⟦ R.own t.result (t.value ∷ []) ⟧ in
+          let B = tokens αs ∗ ⟦ R.own_val t.result (t.value ∷ []) ⟧ in
           let D = ⟦ Aside αs γs ⟧ in
           sat_⇛ 𝓤 H w.𝓜 t.after (Settled (lefts_of (lifetimes n αs) ks xs γs t.last) t.value t.result) F
           (sat_weaken 𝓤 H w.𝓜 t.after
@@ -211,7 +211,7 @@ module _ (n : ℕ) (ks : List (Kind n)) (R : RattleType) where
           })
 
       -- THE OWNER'S THEOREM
-      pub owner : Meets w.𝓛 T.signature (w.𝓡.run ρ) (written w T c ρ) → Made w.𝓛 ks → Granted requires (contents ks xs) → Fits ks xs →
+      pub owner : Meets w.𝓛 T.signature (w.𝓡.returns ρ) (written w T c ρ) → Made w.𝓛 ks → Granted requires (contents ks xs) → Fits ks xs →
           Holds σ (Before xs ∗ F) → ∥ WentWell xs σ F ∥₁
       owner met made grant fits holds =
           ∥∥₁_elim (sat_ex∗ 𝓤 H w.𝓜 σ (λ (αs : Fresh n). ex 𝓤 (λ (γs : Names ks). Ready αs γs)) F

@@ -9,13 +9,13 @@ use mir.Val.{Val}
 use base.Logic.{SProp, sep, ex, via, comm∗, assoc∗, fst∗, snd∗, mono_l, emp}
 use prog.Memory.{Memory}
 use prog.Machine.{done}
-use prog.Routine.{Routine, anyName}
+use prog.Routine.{Routine, any_callee, step}
 use prog.Wp.{Heap}
 use ghost.Atoms.{Atoms}
 use types.Logic.{sem}
 use contract.Monad.{fact}
 use contract.Lifetimes.{Lfts}
-use contract.Running.{tables}
+use contract.Running.{tables, strict}
 use contract.Adequate.{Satisfies, sat_weaken, sat_⇛, sat_ex∗, sat_fact}
 use denote.Signature.{Signature}
 use denote.Triple.Adequate.{adequate}
@@ -89,7 +89,7 @@ module _ (w : World) (T : Ended) (c : Plain T) (ρ : Routine) where
     pub steps : ℕ
     pub value : Val
     pub after : Memory
-    pub ran : ρ.step steps (passed w.𝓛 S x) σ ≡ done (value, after)
+    pub ran : step ρ steps (passed w.𝓛 S x) σ ≡ done (value, after)
     pub result : Res S x.0
     pub last : Fins x.0 S.params T.kept x.3
     pub stands : Holds after (sep 𝓤 (Lasts x last) (sep 𝓤 (Back w.𝓛 S x value result) F))
@@ -124,9 +124,9 @@ module _ (w : World) (T : Ended) (c : Plain T) (ρ : Routine) where
           ends
 
   -- `met` is the function's own theorem, so the contract is that of the source
-  pub returns : Meets w.𝓛 S (w.𝓡.run ρ) written → (x : Passed) (σ : Memory) (F : SProp 𝓤) → MayCall x σ F → ∥ Returned x σ F ∥₁
+  pub returns : Meets w.𝓛 S (w.𝓡.returns ρ) written → (x : Passed) (σ : Memory) (F : SProp 𝓤) → MayCall x σ F → ∥ Returned x σ F ∥₁
   returns met x σ F may =
-      let end = adequate 𝓤 H w.𝓜 (tables 𝓤 H w.𝓜 w.𝓡 (λ _. ρ)) anyName (triple_of w.𝓛 S written) met (x, tt) σ F may in
+      let end = adequate 𝓤 H w.𝓜 (tables 𝓤 H w.𝓜 (strict 𝓤 H w.𝓜 w.𝓡) (λ _. ρ)) (λ s no. no, tt) any_callee (triple_of w.𝓛 S written) met (x, tt) σ F may in
       ∥∥₁_elim end ∥∥₁_prop (λ a.
       let v = a.1 in
       let τ = a.2 in
