@@ -9,13 +9,13 @@ use mir.Val.{Val}
 use base.Logic.{SProp, sep, ex, via, comm∗, assoc∗, fst∗, snd∗, mono_l, emp}
 use prog.Memory.{Memory}
 use prog.Machine.{done}
-use prog.Routine.{Routine, any_callee, step}
+use prog.Routine.{Routine, Env, any_callee, step}
 use prog.Wp.{Heap}
 use ghost.Atoms.{Atoms}
 use types.Logic.{sem}
 use contract.Monad.{fact}
 use contract.Lifetimes.{Lfts}
-use contract.Running.{tables, strict}
+use contract.Running.{Running, tables, strict, within}
 use contract.Adequate.{Satisfies, sat_weaken, sat_⇛, sat_ex∗, sat_fact}
 use denote.Signature.{Signature}
 use denote.Triple.Adequate.{adequate}
@@ -25,6 +25,11 @@ use denote.Triple.End.{Fins, Outs, outs, lasts_of}
 use denote.Triple.Entry.{Args, Res}
 use denote.Triple.Spec.{Spec, Meets, Back, exits, triple_of}
 use borrow.Fn.World.{World}
+
+-- A function's own theorem is said at each way of running routines. It is taken here at the way in which a call is run alone and
+-- returns, with no status at which it may stop: `(reading w γ).run` is `w.𝓡.returns`, and a name means what it does in γ.
+abbrev pub reading : (w : World) → Env → Running w.𝓤 w.𝓛.H w.𝓜
+reading w γ = strict w.𝓤 w.𝓛.H w.𝓜 (within w.𝓤 w.𝓛.H w.𝓜 w.𝓡 γ)
 
 -- A contract whose clauses are ⌜ .. ⌝, at the signature that T has: of the arguments what is required, none where there is
 -- no `requires`; and of the arguments, the result and the parameters at exit what is ensured.
