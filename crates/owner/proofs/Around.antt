@@ -4,7 +4,7 @@ use mathlib.Core.Path.{ap, subst}
 use mathlib.Core.List.{List, [], ◌∷◌}
 use mathlib.Core.Logic.{∥∥₁_map}
 use seplogic.Ra.Ura.{Ura}
-use seplogic.Ra.TreeShare.{full_share}
+use base.Fraction.{full_share}
 use mir.Val.{Val}
 use base.Logic.{SProp, ent, sep, emp, emp∗, id⊢, snd∗}
 use base.Fml.{Share, Fml, ftrue}
@@ -25,7 +25,8 @@ use Rattle.owner.specs.Machine.{Ran}
 use Rattle.owner.specs.Holds.{◌⊨◌}
 use Rattle.owner.proofs.Returns.{written}
 use Rattle.owner.proofs.Loans.{Kind, shared, mutable, reference, value, Given1, Givens, Fits, words, Left1, Lefts, AsMany, before, after, Made}
-use Rattle.owner.proofs.Owner.{T, Says, Requires, Granted, promised, WentWell, owner}
+use Rattle.owner.proofs.Owner.{T, Says, Requires, Granted, promised}
+use Rattle.owner.proofs.Theorem.{owner}
 use Rattle.owner.proofs.Contents.{contents}
 use Rattle.owner.proofs.Placed.{Placed, placed, parts_out, parts_in}
 
@@ -132,22 +133,21 @@ module _ (n : ℕ) (ks : List (Kind n)) (R : RattleType) (low : R.Denot → Val)
     pub ensured : E (contents ks xs) result left
 
   module _ (tells : Tells R (Is R) (λ r. low r ∷ [])) where
-    run : (xs : Givens ks) (σ : Memory) (F : SProp w.𝓤) → WentWell n ks R w ρ E xs σ F → Run xs σ F
-    run xs σ F t = record {
-      result = t.result;
-      memory = t.memory;
-      ran = subst (λ (v : Val). Ran ρ (words ks xs) σ v t.memory) (ap only (tells t.result (t.value ∷ []) t.stands_for)) t.ran;
-      stands_for = subst (Is R t.result) (tells t.result (t.value ∷ []) t.stands_for) t.stands_for;
-      left = t.left;
-      as_many = t.as_many;
-      holds = sat_weaken w.𝓤 w.𝓛.H w.𝓜 t.memory (leave w.𝓛 ks ps xs t.left F) t.holds;
-      ensured = t.ensured;
-    }
-
     -- `met` is the function's own theorem, so that E and what is required are its contract
     pub runs : (requires : Requires n ks R) →
-        Meets w.𝓛 (T n ks R).signature (w.𝓡.run ρ) (written w (T n ks R) (promised n ks R requires E) ρ) →
+        Meets w.𝓛 (T n ks R).signature (w.𝓡.returns ρ) (written w (T n ks R) (promised n ks R requires E) ρ) →
         Made w.𝓛 ks → (xs : Givens ks) → Granted n ks R requires (contents ks xs) → Fits ks xs →
         (σ : Memory) (F : SProp w.𝓤) → Has σ xs F → ∥ Run xs σ F ∥₁
-    runs requires met made xs grant fits σ F has = ∥∥₁_map (owner n ks R w ρ E requires xs σ F met made grant fits
-        (sat_weaken w.𝓤 w.𝓛.H w.𝓜 σ (enter w.𝓛 ks ps xs F) has)) (run xs σ F)
+    runs requires met made xs grant fits σ F has =
+        ∥∥₁_map (owner n ks R w ρ E requires xs σ F met made grant fits (sat_weaken w.𝓤 w.𝓛.H w.𝓜 σ (enter w.𝓛 ks ps xs F) has)) (λ t.
+        let is = tells t.result (t.value ∷ []) t.stands_for in
+        record {
+          result = t.result;
+          memory = t.memory;
+          ran = subst (λ (v : Val). Ran ρ (words ks xs) σ v t.memory) (ap only is) t.ran;
+          stands_for = subst (Is R t.result) is t.stands_for;
+          left = t.left;
+          as_many = t.as_many;
+          holds = sat_weaken w.𝓤 w.𝓛.H w.𝓜 t.memory (leave w.𝓛 ks ps xs t.left F) t.holds;
+          ensured = t.ensured;
+        })

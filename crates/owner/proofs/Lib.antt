@@ -1,7 +1,9 @@
 pub mod Returns
 pub mod Loans
+pub mod Lending
 pub mod Contents
 pub mod Owner
+pub mod Theorem
 pub mod Placed
 pub mod Around
 pub mod Cells

@@ -17,10 +17,12 @@ use types.Run.{well_typed}
 use types.Share.{parts}
 use denote.RattleType.{RattleType}
 use denote.Plain.{UInt, uint_Makes, uint_Tells}
+use denote.Copied.{uint_Copied}
 use denote.Shadow.{shadow, shows_shadow}
 use denote.Memory.{mem, shares, part_at, part_of, cell_raw}
 use denote.Steps.{heard}
 use contract.Monad.{fact}
+use Rattle.owner.proofs.Loans.{Lends}
 
 module _ {M : Type 1} {𝓤 : Ura M} (𝓛 : Logic 𝓤) where
   open 𝓛 use {H}
@@ -82,3 +84,7 @@ module _ {M : Type 1} {𝓤 : Ura M} (𝓛 : Logic 𝓤) where
     goes_out = part_out (ty_int n) (UInt n).own_val (vint n) (uint_Tells n) (uint_Makes 𝓛 n) (λ x t. (refl, t.fits));
     comes_in = part_in (ty_int n) (UInt n).own_val (vint n) (uint_Tells n) (uint_Makes 𝓛 n) (λ x t. (refl, t.fits));
   }
+
+  -- and any share of them is lent as `&`
+  pub number_lent : (n : Width) → Lends 𝓛 (UInt n)
+  number_lent n = (uint_Copied 𝓛 n).lends

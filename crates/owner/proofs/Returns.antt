@@ -9,13 +9,13 @@ use mir.Val.{Val}
 use base.Logic.{SProp, sep, ex, via, comm∗, assoc∗, fst∗, snd∗, mono_l, emp}
 use prog.Memory.{Memory}
 use prog.Machine.{done}
-use prog.Routine.{Routine, anyName}
+use prog.Routine.{Routine, Env, any_callee, step}
 use prog.Wp.{Heap}
 use ghost.Atoms.{Atoms}
 use types.Logic.{sem}
 use contract.Monad.{fact}
 use contract.Lifetimes.{Lfts}
-use contract.Running.{tables}
+use contract.Running.{Running, tables, strict, within}
 use contract.Adequate.{Satisfies, sat_weaken, sat_⇛, sat_ex∗, sat_fact}
 use denote.Signature.{Signature}
 use denote.Triple.Adequate.{adequate}
@@ -25,6 +25,11 @@ use denote.Triple.End.{Fins, Outs, outs, lasts_of}
 use denote.Triple.Entry.{Args, Res}
 use denote.Triple.Spec.{Spec, Meets, Back, exits, triple_of}
 use borrow.Fn.World.{World}
+
+-- A function's own theorem is said at each way of running routines. It is taken here at the way in which a call is run alone and
+-- returns, with no status at which it may stop: `(reading w γ).run` is `w.𝓡.returns`, and a name means what it does in γ.
+abbrev pub reading : (w : World) → Env → Running w.𝓤 w.𝓛.H w.𝓜
+reading w γ = strict w.𝓤 w.𝓛.H w.𝓜 (within w.𝓤 w.𝓛.H w.𝓜 w.𝓡 γ)
 
 -- A contract whose clauses are ⌜ .. ⌝, at the signature that T has: of the arguments what is required, none where there is
 -- no `requires`; and of the arguments, the result and the parameters at exit what is ensured.
@@ -89,7 +94,7 @@ module _ (w : World) (T : Ended) (c : Plain T) (ρ : Routine) where
     pub steps : ℕ
     pub value : Val
     pub after : Memory
-    pub ran : ρ.step steps (passed w.𝓛 S x) σ ≡ done (value, after)
+    pub ran : step ρ steps (passed w.𝓛 S x) σ ≡ done (value, after)
     pub result : Res S x.0
     pub last : Fins x.0 S.params T.kept x.3
     pub stands : Holds after (sep 𝓤 (Lasts x last) (sep 𝓤 (Back w.𝓛 S x value result) F))
@@ -124,9 +129,9 @@ module _ (w : World) (T : Ended) (c : Plain T) (ρ : Routine) where
           ends
 
   -- `met` is the function's own theorem, so the contract is that of the source
-  pub returns : Meets w.𝓛 S (w.𝓡.run ρ) written → (x : Passed) (σ : Memory) (F : SProp 𝓤) → MayCall x σ F → ∥ Returned x σ F ∥₁
+  pub returns : Meets w.𝓛 S (w.𝓡.returns ρ) written → (x : Passed) (σ : Memory) (F : SProp 𝓤) → MayCall x σ F → ∥ Returned x σ F ∥₁
   returns met x σ F may =
-      let end = adequate 𝓤 H w.𝓜 (tables 𝓤 H w.𝓜 w.𝓡 (λ _. ρ)) anyName (triple_of w.𝓛 S written) met (x, tt) σ F may in
+      let end = adequate 𝓤 H w.𝓜 (tables 𝓤 H w.𝓜 (strict 𝓤 H w.𝓜 w.𝓡) (λ _. ρ)) (λ s no. no, tt) any_callee (triple_of w.𝓛 S written) met (x, tt) σ F may in
       ∥∥₁_elim end ∥∥₁_prop (λ a.
       let v = a.1 in
       let τ = a.2 in

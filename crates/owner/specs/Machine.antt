@@ -6,11 +6,11 @@ use mir.Syntax.{Width, Ty}
 use mir.Val.{Val, has_ty, bits, WT}
 use prog.Memory.{Memory, load_m, store_m, alloc_m, size}
 use prog.Machine.{done}
-use prog.Routine.{Routine}
+use prog.Routine.{Routine, step}
 
 -- called on the values vs from the memory σ, the routine returns v and leaves the memory ρ
 abbrev pub Ran : Routine → List Val → Memory → Val → Memory → Type 0
-Ran f vs σ v ρ = (n : ℕ) × (f.step n vs σ ≡ done (v, ρ))
+Ran f vs σ v ρ = (n : ℕ) × (step f n vs σ ≡ done (v, ρ))
 
 -- the loads of a type, one place after another, give these values
 abbrev pub Loads : Memory → Ty → ℕ → ℕ → List Val → Type 0
