@@ -1,0 +1,5 @@
+use borrow.Author.Rules.{rules}
+use Rattle.scene.proofs.SceneAnswer.unread.Goals as goal
+
+pub returns : goal.returns
+returns c = rw c.defaults-shapes.ensures

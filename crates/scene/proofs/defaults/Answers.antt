@@ -1,0 +1,7 @@
+use borrow.Author.Rules.{rules}
+use Rattle.scene.specs.Scene.{defaults}
+use Rattle.scene.proofs.defaults.Goals as goal
+
+pub returns : goal.returns
+unfolding defaults
+returns c = rw c.default-first.ensures

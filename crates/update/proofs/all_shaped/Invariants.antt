@@ -1,0 +1,15 @@
+use Prim.Native.Nat.{◌-◌, ◌≤◌}
+use mathlib.Core.Path.{◌≡◌, refl}
+use native.Mathlib.Omega.{arith}
+use borrow.Author.Rules.{rules}
+use lib.ListN.{length, take, drop}
+use Rattle.update.specs.Update.{all_shaped}
+use Rattle.update.proofs.Questions.{shape_kept, shape_broken, shapes_kept}
+use Rattle.update.proofs.all_shaped.Given as goal
+
+-- the shapes before `i` are as they should be
+abbrev pub invariant-loop-i : goal.invariant-loop-i
+invariant-loop-i l = (l.i ≤ l.count) × (all_shaped (drop l.i (take l.count l.shapes)) ≡ all_shaped (take l.count l.shapes))
+
+abbrev pub decreases-loop-i : goal.decreases-loop-i
+decreases-loop-i l = l.count - l.i
