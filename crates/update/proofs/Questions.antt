@@ -2,9 +2,9 @@
 use Prim.Native.Nat.{ℕ, zero, suc, ◌+◌, ◌<◌, ◌≤◌}
 use mathlib.Core.Path.{◌≡◌, refl, sym, ap, ◌∙◌}
 use mathlib.Core.List.{List, [], ◌∷◌}
-use mathlib.Core.Bool.{Bool, true, false, not, ◌&&◌}
+use mathlib.Core.Bool.{Bool, true, false, ◌&&◌}
 use native.Mathlib.Omega.{arith}
-use borrow.Author.Tests.{leb-true, le-leb, lt-leb, not-true, not-false}
+use borrow.Author.Tests.{leb-true, le-leb, lt-leb}
 use lib.Dec.{leb}
 use lib.ListN.{length, get_or, take, drop}
 use lib.Seq.{length-take-le, get_or-take}
@@ -25,11 +25,11 @@ module _ (shapes : List PositionSyntax) (count i : ℕ) (few : count ≤ length 
   turn h = rw (one_left shapes count i few default h)
 
   module _ {b : Bool} (e : b ≡ is_shaped (get_or shapes i default)) (h : i < count) (left : all_shaped (drop i (take count shapes)) ≡ all_shaped (take count shapes)) where
-    pub shape_kept : not b ≡ false → all_shaped (drop (i + 1) (take count shapes)) ≡ all_shaped (take count shapes)
-    shape_kept q = rw (turn h, ← e, not-false b q) at left
+    pub shape_kept : b ≡ true → all_shaped (drop (i + 1) (take count shapes)) ≡ all_shaped (take count shapes)
+    shape_kept q = rw (turn h, ← e, q) at left
 
-    pub shape_broken : not b ≡ true → false ≡ all_shaped (take count shapes)
-    shape_broken q = rw (turn h, ← e, not-true b q) at left
+    pub shape_broken : b ≡ false → false ≡ all_shaped (take count shapes)
+    shape_broken q = rw (turn h, ← e, q) at left
 
   pub shapes_kept : count ≤ i → all_shaped (drop i (take count shapes)) ≡ all_shaped (take count shapes) → true ≡ all_shaped (take count shapes)
   unfolding all_shaped
