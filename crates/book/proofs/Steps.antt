@@ -47,7 +47,7 @@ module _ {P S T : Type 0} (step : Step P S T) where
     -- a list in two parts, and the state between them
     between : {s t : S} (first rest : List (Call P T)) → Ran Run s (first ++ rest) t → (m : S) × Ran Run s first m × Ran Run m rest t
     between [] rest r = (_, none, r)
-    between (c ∷ first) rest (call k r) = let cut = between first rest r in (cut.0, call k cut.1, cut.2)
+    between {s = s} {t = t} (c ∷ first) rest (call {t = t'} k r) = let cut = between {s = t'} first rest r in (cut.0, call k cut.1, cut.2)
 
     module _ (accepts : T → Bool) (leaves : Leaves step accepts) where
       refused_leaves : {s m : S} {c : Call P T} → Run s c m → accepts c.told ≡ false → m ≡ s
