@@ -1,4 +1,3 @@
-use borrow.Author.Rules.{rules}
 use Rattle.text.proofs.Puts.{puts}
 use Rattle.text.proofs.put_number.Goals as goal
 

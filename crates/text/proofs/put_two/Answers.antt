@@ -1,5 +1,4 @@
 use Rattle.text.proofs.Puts.{puts}
-use borrow.Author.Rules.{rules}
 use Rattle.text.proofs.put_two.Goals as goal
 
 pub put_number-next-requires : goal.put_number-next-requires

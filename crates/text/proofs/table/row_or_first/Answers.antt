@@ -1,8 +1,4 @@
 use borrow.Author.Tests.{le-leb, lt-leb}
-use borrow.Author.Rules.{rules}
-use Rattle.text.proofs.table.row_or_first.Reads as reads
-use Rattle.text.proofs.table.row_or_first.Lts as lts
-use Rattle.text.proofs.table.row.Reads as row_reads
 use Rattle.text.proofs.table.row_or_first.Goals as goal
 
 pub returns-then-n-table : goal.returns-then-n-table
