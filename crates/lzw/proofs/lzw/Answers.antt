@@ -1,4 +1,3 @@
-use borrow.Author.Rules.{rules}
 use Rattle.rules.proofs.Laws.{readings}
 use Rattle.lzw.specs.Lzw.{lzw}
 use Rattle.lzw.proofs.lzw.Goals as goal

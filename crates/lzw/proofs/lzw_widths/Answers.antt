@@ -1,5 +1,4 @@
 use borrow.Author.Tests.{lt-ltb, le-ltb}
-use borrow.Author.Rules.{rules}
 use Rattle.rules.proofs.Laws.{last}
 use Rattle.lzw.specs.Lzw.{lzw_widths}
 use Rattle.lzw.proofs.lzw_widths.Goals as goal
