@@ -1,5 +1,4 @@
 use mathlib.Core.Path.{sym, ◌∙◌}
-use borrow.Author.Rules.{rules}
 use Rattle.rules.proofs.Laws.{readings, both, first, if_false_by, ended_as, alone}
 use Rattle.probability.specs.Probability.{add_float}
 use Rattle.probability.proofs.Finite.{finite_number}

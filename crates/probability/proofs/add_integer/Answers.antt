@@ -1,7 +1,6 @@
 use Prim.Native.Nat.{◌<◌, ◌^◌}
 use native.Mathlib.Nat.{lt_of_lt_of_le}
 use native.Mathlib.Omega.{arith}
-use borrow.Author.Rules.{rules}
 use lib.Pow.{pow_mono}
 use Rattle.rules.proofs.Laws.{readings}
 use Rattle.probability.specs.Probability.{add_integer}

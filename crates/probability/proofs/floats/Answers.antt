@@ -1,4 +1,3 @@
-use borrow.Author.Rules.{rules}
 use Rattle.rules.proofs.Laws.{readings}
 use Rattle.probability.specs.Probability.{floats}
 use Rattle.probability.proofs.floats.Goals as goal

@@ -1,4 +1,3 @@
-use borrow.Author.Rules.{rules}
 use Rattle.rules.proofs.Laws.{readings}
 use Rattle.probability.specs.Probability.{integers}
 use Rattle.probability.proofs.integers.Goals as goal

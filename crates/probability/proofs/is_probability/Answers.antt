@@ -1,5 +1,4 @@
 use mathlib.Core.Path.{sym, ◌∙◌}
-use borrow.Author.Rules.{rules}
 use Rattle.probability.proofs.Finite.{finite_number}
 use Rattle.probability.proofs.is_probability.Goals as goal
 

@@ -1,12 +1,8 @@
 use Prim.Native.Nat.{◌-◌, ◌≤◌}
-use mathlib.Core.Path.{◌≡◌, refl}
-use native.Mathlib.Omega.{arith}
-use native.Mathlib.Nat.{sub-zero}
-use borrow.Author.Rules.{rules}
+use mathlib.Core.Path.{◌≡◌}
 use lib.ListN.{length}
 use Rattle.rules.specs.Derived.{fold}
-use Rattle.rules.proofs.Left.{Left, left_all, left_over}
-use Rattle.rules.proofs.Fold.{fold_more, fold_none}
+use Rattle.rules.proofs.Left.{Left}
 use Rattle.probability.specs.Probability.{add_float}
 use Rattle.probability.proofs.sum_floats.Given as goal
 

@@ -1,13 +1,9 @@
-use Prim.Native.Nat.{◌-◌, ◌≤◌, ◌*◌, ◌^◌}
-use mathlib.Core.Path.{◌≡◌, refl}
+use mathlib.Core.Path.{refl}
 use native.Mathlib.Omega.{arith}
 use native.Mathlib.Nat.{sub-zero}
 use borrow.Author.Rules.{rules}
-use lib.ListN.{length}
-use Rattle.rules.specs.Derived.{fold}
-use Rattle.rules.proofs.Left.{Left, left_all, left_over}
+use Rattle.rules.proofs.Left.{left_all, left_over}
 use Rattle.rules.proofs.Fold.{fold_more, fold_none}
-use Rattle.probability.specs.Probability.{add_integer}
 use Rattle.probability.proofs.sum_integers.Goals as goal
 
 pub loop-j-init : goal.loop-j-init
@@ -18,7 +14,7 @@ loop-j-preserved c =
     (omega arith, search rules, omega (arith, c.add_integer-v.ensures.small), fold_more _ _ _ _ c.loop-j.invariant.3 c.loop-j-test.true c.add_integer-v.ensures.met)
 
 pub returns-else-is_read : goal.returns-else-is_read
-returns-else-is_read c = c in left_over at_test.before.before.loop.invariant.3 at_test.is_read.ensures c.if-is_read.false
+returns-else-is_read c = left_over c.loop-j.invariant.3 c.is_read.ensures c.if-is_read.false
 
 pub returns-after-loop-j : goal.returns-after-loop-j
 returns-after-loop-j c = fold_none _ _ _ _ c.loop-j.invariant.3 c.loop-j-test.false
