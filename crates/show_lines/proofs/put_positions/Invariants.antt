@@ -1,0 +1,17 @@
+use Prim.Native.Nat.{◌-◌, ◌≤◌}
+use native.Mathlib.Nat.{sub-zero}
+use native.Mathlib.Omega.{arith}
+use borrow.Author.Rules.{rules}
+use lib.ListN.{length}
+use Rattle.text.proofs.Puts.{PutLeft, all_left, less_left, room_left, none_left}
+use Rattle.show_lines.specs.Lines.{position_line, position_lines}
+use Rattle.show_lines.proofs.Positions.{position_more, position_end}
+use Rattle.show_lines.proofs.put_positions.Given as goal
+
+-- what is still to be put are the lines of the positions after `i`
+abbrev pub invariant-loop-i : goal.invariant-loop-i
+invariant-loop-i l =
+    (l.i ≤ length l.parents) × PutLeft l.initial.out l.at (position_lines l.parents (length l.parents) 0) l.out l.to (position_lines l.parents (length l.parents - l.i) l.i)
+
+abbrev pub decreases-loop-i : goal.decreases-loop-i
+decreases-loop-i l = length l.parents - l.i
