@@ -4,7 +4,8 @@ use Rattle.show.proofs.show.Goals as goal
 
 pub put_parts-length-requires : goal.put_parts-length-requires
 put_parts-length-requires c =
-    room_read _ c.args.text.now c.file_question-number.ensures (search rules) c.if-number-eq0.true
+    let room = room_read _ c.args.text.now c.file_question-number.ensures (search rules) c.if-number-eq0.true in
+    record { header_sound = room.0; file_in_bounds = room.1 }
 
 pub returns-then-number-eq0 : goal.returns-then-number-eq0
 returns-then-number-eq0 c =
@@ -16,4 +17,4 @@ put_refused-length-requires c =
 
 pub returns : goal.returns
 returns c =
-    answered_refused _ _ c.file_question-number.ensures (search rules) c.if-number-eq0.false c.Put-refused.ensures
+    answered_refused _ _ c.file_question-number.ensures (search rules) c.if-number-eq0.false c.put_refused-length.ensures
