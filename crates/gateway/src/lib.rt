@@ -1,5 +1,5 @@
-// What a gateway calls from C or Rust: the readings as exported functions over numbers, slices and plain structs. None asks
-// anything of its caller. include/gateway.h says what they do.
+// What a gateway calls from C or Rust: the readings as functions over numbers, slices and plain structs. None asks anything of
+// its caller. include/gateway.h says what they do; the crate gateway_c exports them.
 #![tactic(auto)]
 
 ghost use Rattle.std.specs.Prelude.{◌≡◌, length};
@@ -26,8 +26,7 @@ pub struct GatewayScene {
 }
 
 // `scene::read_scene`
-#[unsafe(no_mangle)]
-pub extern "C" fn gateway_scene(
+pub fn gateway_scene(
     bytes: &[u8],
     offset: usize,
     recording: bool,
@@ -46,8 +45,7 @@ pub extern "C" fn gateway_scene(
 }
 
 // `lent::graph_update`
-#[unsafe(no_mangle)]
-pub extern "C" fn gateway_update(
+pub fn gateway_update(
     bytes: &[u8],
     offset: usize,
     recording: bool,
@@ -61,8 +59,7 @@ pub extern "C" fn gateway_update(
 }
 
 // `lent::read_position`
-#[unsafe(no_mangle)]
-pub extern "C" fn gateway_position(
+pub fn gateway_position(
     bytes: &[u8],
     offset: usize,
     recording: bool,
@@ -77,8 +74,7 @@ pub extern "C" fn gateway_position(
 }
 
 // `lent::validate_graph`
-#[unsafe(no_mangle)]
-pub extern "C" fn gateway_validation(shapes: &[PositionSyntax], at: usize) -> GatewayAnswer
+pub fn gateway_validation(shapes: &[PositionSyntax], at: usize) -> GatewayAnswer
     ensures { result ≡ exported (answer_of (validation_reading (length shapes.now) shapes.now at)) }
 {
     let a = lent::validate_graph(&shapes[..], at);
@@ -86,8 +82,7 @@ pub extern "C" fn gateway_validation(shapes: &[PositionSyntax], at: usize) -> Ga
 }
 
 // `metadata::read_metadata`
-#[unsafe(no_mangle)]
-pub extern "C" fn gateway_metadata(
+pub fn gateway_metadata(
     bytes: &[u8],
     offset: usize,
     recording: bool,
@@ -100,8 +95,7 @@ pub extern "C" fn gateway_metadata(
 }
 
 // `names::name_text`
-#[unsafe(no_mangle)]
-pub extern "C" fn gateway_name(word: u64, bytes: &mut [u8]) -> GatewayAnswer
+pub fn gateway_name(word: u64, bytes: &mut [u8]) -> GatewayAnswer
     ensures { NameExported word (name_question word (length bytes.old)) bytes.old result bytes.new }
 {
     let a = names::name_text(word, bytes);
