@@ -6,7 +6,7 @@ use mathlib.Core.List.{List, []}
 use native.Mathlib.Omega.{arith}
 use lib.ListN.{length, take}
 use Rattle.rules.specs.declared.Answer.{Answer}
-use Rattle.rules.specs.Reading.{Reading, Result, read, ended}
+use Rattle.rules.specs.Reading.{Result, read, ended}
 use Rattle.rules.specs.Answer.{value_or, input_of, Answered}
 use Rattle.rules.proofs.Answers.{value_unread, value_of_read}
 use Rattle.position.specs.declared.PositionSyntax.{PositionSyntax}

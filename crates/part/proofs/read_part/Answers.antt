@@ -1,7 +1,6 @@
 use mathlib.Core.Path.{sym, ◌∙◌}
 use Rattle.show_header.proofs.Sound.{sound_if, question_met}
 use Rattle.part.proofs.Answers.{sound_answered, file_refused}
-use borrow.Author.Rules.{rules}
 use Rattle.part.proofs.read_part.Goals as goal
 
 pub read_sound-requires : goal.read_sound-requires

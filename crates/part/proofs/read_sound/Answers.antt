@@ -1,6 +1,5 @@
 use native.Mathlib.Omega.{arith}
 use Rattle.part.proofs.Answers.{no_part, scene_answered, other_answered}
-use borrow.Author.Rules.{rules}
 use Rattle.part.proofs.read_sound.Goals as goal
 
 pub returns-then-part_count-k : goal.returns-then-part_count-k

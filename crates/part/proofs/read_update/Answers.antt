@@ -1,7 +1,6 @@
 use mathlib.Core.Path.{sym, ◌∙◌}
 use Rattle.show_parts.proofs.Answers.{scene_fits}
 use Rattle.part.proofs.Answers.{update_answered, scene_unread}
-use borrow.Author.Rules.{rules}
 use Rattle.part.proofs.read_update.Goals as goal
 
 pub shapes_before-shapes-requires : goal.shapes_before-shapes-requires

@@ -1,9 +1,4 @@
-use Prim.Native.Nat.{◌-◌}
-use mathlib.Core.Path.{◌≡◌, refl, ◌∙◌}
-use borrow.Author.Rules.{rules}
-use lib.ListN.{take}
-use Rattle.book.specs.Book.{book_shapes}
-use Rattle.show_parts.specs.Parts.{packets}
+use mathlib.Core.Path.{refl, ◌∙◌}
 use Rattle.part.proofs.Answers.{shapes_more, shapes_end}
 use Rattle.part.proofs.shapes_before.Goals as goal
 

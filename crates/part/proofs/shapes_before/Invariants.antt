@@ -1,10 +1,8 @@
 use Prim.Native.Nat.{◌-◌}
-use mathlib.Core.Path.{◌≡◌, refl, ◌∙◌}
-use borrow.Author.Rules.{rules}
+use mathlib.Core.Path.{◌≡◌}
 use lib.ListN.{take}
 use Rattle.book.specs.Book.{book_shapes}
 use Rattle.show_parts.specs.Parts.{packets}
-use Rattle.part.proofs.Answers.{shapes_more, shapes_end}
 use Rattle.part.proofs.shapes_before.Given as goal
 
 -- the parts from `i` on leave of the shapes so far what all of them leave of the first

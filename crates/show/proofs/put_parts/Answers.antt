@@ -3,7 +3,6 @@ use Rattle.show_parts.proofs.Answers.{scene_fits}
 use Rattle.show_lines.specs.Lines.{part_line}
 use Rattle.show.specs.Show.{rest_text}
 use Rattle.show.proofs.Texts.{parts_by_scene}
-use borrow.Author.Rules.{rules}
 use Rattle.show.proofs.put_parts.Goals as goal
 
 pub put_part-next-requires : goal.put_part-next-requires

@@ -1,6 +1,5 @@
 use Rattle.text.proofs.Puts.{put_none}
 use Rattle.show.specs.Show.{rest_text}
-use borrow.Author.Rules.{rules}
 use Rattle.show.proofs.put_rest.Goals as goal
 
 pub put_updates-requires : goal.put_updates-requires

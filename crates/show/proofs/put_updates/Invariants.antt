@@ -1,11 +1,8 @@
 use Prim.Native.Nat.{◌-◌}
-use borrow.Author.Rules.{rules}
 use lib.ListN.{take}
-use Rattle.text.proofs.Puts.{PutLeft, all_left, less_left, room_left, room_last, put_last}
+use Rattle.text.proofs.Puts.{PutLeft}
 use Rattle.show_parts.specs.Parts.{packets}
-use Rattle.show_lines.specs.Lines.{part_line}
 use Rattle.show.specs.Show.{updates_text}
-use Rattle.show.proofs.Texts.{update_more, update_end}
 use Rattle.show.proofs.put_updates.Given as goal
 
 -- what is still to be put are the lines of the updates from part `k` on, and of the positions after them

@@ -1,7 +1,6 @@
 use Rattle.text.proofs.Puts.{puts}
 use Rattle.text.specs.Text.{ascii, line}
 use Rattle.show_lines.specs.Lines.{part_line}
-use borrow.Author.Rules.{rules}
 use Rattle.show_lines.proofs.put_part.Goals as goal
 
 pub put_number-next-requires : goal.put_number-next-requires

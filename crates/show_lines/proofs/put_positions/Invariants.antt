@@ -1,11 +1,7 @@
 use Prim.Native.Nat.{◌-◌, ◌≤◌}
-use native.Mathlib.Nat.{sub-zero}
-use native.Mathlib.Omega.{arith}
-use borrow.Author.Rules.{rules}
 use lib.ListN.{length}
-use Rattle.text.proofs.Puts.{PutLeft, all_left, less_left, room_left, none_left}
-use Rattle.show_lines.specs.Lines.{position_line, position_lines}
-use Rattle.show_lines.proofs.Positions.{position_more, position_end}
+use Rattle.text.proofs.Puts.{PutLeft}
+use Rattle.show_lines.specs.Lines.{position_lines}
 use Rattle.show_lines.proofs.put_positions.Given as goal
 
 -- what is still to be put are the lines of the positions after `i`

@@ -1,5 +1,4 @@
 use Rattle.text.specs.Text.{ascii, line}
-use borrow.Author.Rules.{rules}
 use Rattle.show_lines.proofs.put_told.Goals as goal
 
 pub put_two-requires : goal.put_two-requires

@@ -1,7 +1,6 @@
 use native.Mathlib.Omega.{arith}
 use Rattle.show_header.proofs.Sound.{part_start, part_end, part_is}
 use Rattle.show_parts.proofs.Answers.{scene_answers}
-use borrow.Author.Rules.{rules}
 use Rattle.show_parts.proofs.scene_part.Goals as goal
 
 pub slice_bounds-read_scene-count : goal.slice_bounds-read_scene-count
