@@ -2,7 +2,6 @@
 use Rattle.std.specs.Prelude.{ℕ, List, [], ◌++◌}
 use Rattle.rules.specs.declared.Field.{Field}
 use Rattle.rules.specs.declared.Found.{Found}
-use Rattle.rules.specs.declared.Found.TheVariants as Found
 use Rattle.rules.specs.Rule.{pick}
 use Rattle.rules.specs.Words.{field_at}
 use Rattle.text.specs.Text.{newline}
