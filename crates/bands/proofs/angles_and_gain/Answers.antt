@@ -1,0 +1,7 @@
+use Rattle.rules.proofs.Laws.{readings}
+use Rattle.bands.specs.Bands.{angles_and_gain}
+use Rattle.bands.proofs.angles_and_gain.Goals as goal
+
+pub returns : goal.returns
+unfolding angles_and_gain
+returns c = search readings depth 14

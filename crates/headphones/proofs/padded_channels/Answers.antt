@@ -1,0 +1,7 @@
+use Rattle.rules.proofs.Laws.{readings}
+use Rattle.headphones.specs.Headphones.{padded_channels}
+use Rattle.headphones.proofs.padded_channels.Goals as goal
+
+pub returns : goal.returns
+unfolding padded_channels
+returns c = search readings depth 14

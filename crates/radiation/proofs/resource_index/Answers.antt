@@ -1,0 +1,7 @@
+use Rattle.rules.proofs.Laws.{readings}
+use Rattle.radiation.specs.Radiation.{resource_index}
+use Rattle.radiation.proofs.resource_index.Goals as goal
+
+pub returns : goal.returns
+unfolding resource_index
+returns c = search readings depth 14

@@ -1,0 +1,7 @@
+use Rattle.rules.proofs.Laws.{readings}
+use Rattle.renderer_kinds.specs.Kinds.{encoded_flag}
+use Rattle.renderer_kinds.proofs.encoded_flag.Goals as goal
+
+pub returns : goal.returns
+unfolding encoded_flag
+returns c = search readings depth 14

@@ -1,0 +1,7 @@
+use Rattle.rules.proofs.Laws.{readings}
+use Rattle.renderer_kinds.specs.Kinds.{flag_and_encoded}
+use Rattle.renderer_kinds.proofs.flag_and_encoded.Goals as goal
+
+pub returns : goal.returns
+unfolding flag_and_encoded
+returns c = search readings depth 14

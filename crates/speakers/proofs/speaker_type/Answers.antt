@@ -1,0 +1,7 @@
+use Rattle.rules.proofs.Laws.{readings}
+use Rattle.speakers.specs.Speakers.{speaker_type}
+use Rattle.speakers.proofs.speaker_type.Goals as goal
+
+pub returns : goal.returns
+unfolding speaker_type
+returns c = search readings depth 14
