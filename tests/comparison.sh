@@ -36,4 +36,4 @@ if [ -e "$corpus" ]; then
   "$port" compare <"$corpus"
 fi
 
-"$port" compare "$seed" "$scale" target/bin/replay
+"$port" compare "$seed" "$scale" crates/replay/out/replay

@@ -21,7 +21,7 @@ contract() {
 
 {
   sed -n '/^## What a user calls$/,/^None of them asks/p' docs/DECISIONS.md | grep -oE '`[a-z_]+(::\w+)+`' | tr -d '`'
-  sed -n 's/^pub extern "C" fn \(\w*\)(.*/gateway::\1/p' crates/gateway/src/lib.rt
+  sed -n 's/^pub extern "C" fn \(\w*\)(.*/gateway_c::\1/p' crates/gateway_c/src/lib.rt
 } >"$work/functions"
 while read -r path; do
   if ! contract ${path//::/ } >"$work/contract"; then
@@ -34,7 +34,7 @@ while read -r path; do
     exit 1
   fi
 done <"$work/functions"
-exported=$(grep -c '^#\[no_mangle\]$' crates/gateway/src/lib.rt)
-[ "$(grep -c '^gateway::' "$work/functions")" = "$exported" ]
+exported=$(grep -c '^#\[unsafe(no_mangle)\]$' crates/gateway_c/src/lib.rt)
+[ "$(grep -c '^gateway_c::' "$work/functions")" = "$exported" ]
 [ "$(wc -l <"$work/functions")" -gt "$((exported + 10))" ]
 echo "$(wc -l <"$work/functions") functions that users call ask nothing of their callers"

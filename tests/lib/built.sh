@@ -8,25 +8,20 @@ build_oracle() {
   cargo build --quiet --release --offline --manifest-path oracle/Cargo.toml
 }
 
-# Builds the static library: rt proves its crate anew for that, so it is left alone while the crate's stamp is that of the
-# library.
+# Builds the static library, over the proofs that `rt ci` left in crates/*/out, and puts it where C and Rust look for it.
 build_library() {
   export GATEWAY_LIBRARY_DIR=$PWD/target/staticlib
-  local lock
+  local lock made=crates/gateway_c/out/libgateway_c.a
   mkdir -p "$GATEWAY_LIBRARY_DIR"
   exec {lock}>"$GATEWAY_LIBRARY_DIR/lock"
   flock "$lock"
-  if ! rt check gateway >"$GATEWAY_LIBRARY_DIR/log"; then
-    cat "$GATEWAY_LIBRARY_DIR/log"
-    return 1
-  fi
-  if ! cmp -s target/stamp/gateway "$GATEWAY_LIBRARY_DIR/stamp"; then
-    if ! rt staticlib gateway >"$GATEWAY_LIBRARY_DIR/log"; then
+  if ! [ -e "$made" ] || find crates crates.txt -name out -prune -o -newer "$made" -type f -print -quit | grep -q .; then
+    if ! (cd crates/gateway_c && rt lib) >"$GATEWAY_LIBRARY_DIR/log" 2>&1; then
       cat "$GATEWAY_LIBRARY_DIR/log"
       return 1
     fi
     tail -n 1 "$GATEWAY_LIBRARY_DIR/log"
-    cp target/stamp/gateway "$GATEWAY_LIBRARY_DIR/stamp" || return
   fi
+  cmp -s "$made" "$GATEWAY_LIBRARY_DIR/libgateway.a" || cp "$made" "$GATEWAY_LIBRARY_DIR/libgateway.a" || return
   exec {lock}>&-
 }
