@@ -1,0 +1,7 @@
+use Rattle.rules.proofs.Laws.{readings}
+use Rattle.component.specs.Component.{channel_indices}
+use Rattle.component.proofs.channel_indices.Goals as goal
+
+pub returns : goal.returns
+unfolding channel_indices
+returns c = search readings depth 14

@@ -1,0 +1,7 @@
+use Rattle.rules.proofs.Laws.{readings}
+use Rattle.component.specs.Component.{metadata_number}
+use Rattle.component.proofs.metadata_number.Goals as goal
+
+pub returns : goal.returns
+unfolding metadata_number
+returns c = search readings depth 14
