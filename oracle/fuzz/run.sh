@@ -1,6 +1,6 @@
 #!/usr/bin/env bash
 # Fuzzes the comparison of the port with the original Rust, in one process: run.sh [SECONDS]
-# It needs the port's static library (rt staticlib gateway) and clang with its runtimes, of which libFuzzer is taken.
+# It needs the port's static library (build_library of tests/lib/built.sh) and clang with its runtimes, of which libFuzzer is taken.
 # README.md tells what is compared, and where the results are.
 set -euo pipefail
 seconds=${1:-1260}
