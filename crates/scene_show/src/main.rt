@@ -1,9 +1,12 @@
-// scene-show: reads a show file from standard input, and prints its text.
+// scene-show: reads a show file from standard input, and prints its text. Its exit status is 1 if that could not be read or
+// printed, and 2 if it was called with arguments, which is reported on standard error.
 #![tactic(auto)]
 
 ghost use Rattle.std.specs.Prelude.{length, ◌≡◌};
 
-use libc::{STDERR_FILENO, STDOUT_FILENO};
+use std::env::{Env, FillError};
+use std::io;
+use std::process::ExitCode;
 
 // One byte more than a file may have, so that a longer one is seen to be longer.
 fn room() -> [u8; 65537]
@@ -13,26 +16,39 @@ fn room() -> [u8; 65537]
 }
 
 // Prints the text of a file.
-fn print(file: &[u8]) {
+fn print(rt: &impl Print, file: &[u8]) -> io::Result<()> {
     let mut text = [0u8; show::TEXT];
     let answer = show::show(file, &mut text);
     let length = answer.length;
-    if !io::write_all(STDOUT_FILENO, &text[..length]) {
-        os::fail(b"scene-show: standard output");
-    }
+    rt.write_all(&text[..length])
 }
 
-fn main() {
-    if 1 < os::arg_count() {
-        io::write_all(STDERR_FILENO, b"usage: scene-show < FILE\n");
-        return;
+// Reports what failed, and why.
+fn fail(rt: &(impl Eprint + AllocGlobal), what: &str, error: io::Error) -> io::Result<()> {
+    let reason = input::reason(rt.alloc(), error)?;
+    eprintln!(rt; "scene-show: {what}: {reason}")
+}
+
+// Whether there is an argument after the program's name.
+fn has_argument(rt: &impl Env) -> bool {
+    !matches!(rt.arg(1, &mut []), Err(FillError::NotPresent))
+}
+
+fn main(rt: HostRuntime) -> ExitCode {
+    if has_argument(&rt) {
+        let _ = eprintln!(rt; "usage: scene-show < FILE");
+        return ExitCode::from(2);
     }
     let mut file = room();
-    let read = input::read_input(&mut file);
-    if read.failed {
-        os::fail(b"scene-show: standard input");
-        return;
+    let read = input::read_input(&mut rt.stdin(), &mut file);
+    if let Some(error) = read.failed {
+        let _ = fail(&rt, "standard input", error);
+        return ExitCode::FAILURE;
     }
     let length = read.length;
-    print(&file[..length]);
+    if let Err(error) = print(&rt, &file[..length]) {
+        let _ = fail(&rt, "standard output", error);
+        return ExitCode::FAILURE;
+    }
+    ExitCode::SUCCESS
 }

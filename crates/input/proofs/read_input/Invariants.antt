@@ -1,13 +1,11 @@
 use Prim.Native.Nat.{◌-◌, ◌≤◌}
 use mathlib.Core.Path.{◌≡◌}
-use borrow.Author.Rules.{rules}
 use lib.ListN as lib
-use Rattle.io.proofs.Counting.{prefix_len_of_le}
 use Rattle.input.proofs.read_input.Given as goal
 
 -- no more was read than there is room for, which stays as it is
 abbrev pub invariant-loop-length : goal.invariant-loop-length
-invariant-loop-length l = (l.length ≤ lib.length l.bytes) × (lib.length l.bytes ≡ lib.length l.initial.bytes)
+invariant-loop-length g l = (l.length ≤ lib.length l.bytes) × (lib.length l.bytes ≡ lib.length l.initial.bytes)
 
 abbrev pub decreases-loop-length : goal.decreases-loop-length
-decreases-loop-length l = lib.length l.bytes - l.length
+decreases-loop-length g l = lib.length l.bytes - l.length
