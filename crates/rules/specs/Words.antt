@@ -6,7 +6,6 @@ use Rattle.rules.specs.declared.FieldValue.{FieldValue}
 use Rattle.rules.specs.declared.FieldValue.TheVariants.{Flag, Number, Bits, Bytes}
 use Rattle.rules.specs.declared.Found.{Found}
 use Rattle.rules.specs.Rule.{pick}
-use Rattle.rules.specs.declared.Found.TheVariants as Found
 
 -- document 01's number for each kind of value
 abbrev pub kind_of : FieldValue → ℕ

@@ -2,7 +2,6 @@
 use Prim.Native.Nat.{◌/◌, ◌<◌}
 use native.Mathlib.Nat.{zero-div, zero-mod}
 use native.Mathlib.Omega.{arith}
-use borrow.Author.Rules.{rules}
 use lib.Bits.{and_mask}
 use lib.Pow.{pow_pos}
 use lib.ListN.{get_or, get_or-eq_default}

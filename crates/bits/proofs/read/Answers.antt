@@ -1,8 +1,6 @@
 -- The loop adds the bits of one byte a turn.
-use Prim.Native.Nat.{◌≤◌, ◌-◌}
 use mathlib.Core.Path.{◌≡◌, refl}
 use native.Mathlib.Omega.{arith}
-use borrow.Author.Rules.{rules}
 use Rattle.bits.specs.Bits.{bits_at}
 use Rattle.bits.proofs.Laws.{bits_joined}
 use Rattle.bits.proofs.read.Goals as goal

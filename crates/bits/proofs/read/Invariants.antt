@@ -1,9 +1,6 @@
 use Prim.Native.Nat.{◌≤◌, ◌-◌}
-use mathlib.Core.Path.{◌≡◌, refl}
-use native.Mathlib.Omega.{arith}
-use borrow.Author.Rules.{rules}
+use mathlib.Core.Path.{◌≡◌}
 use Rattle.bits.specs.Bits.{bits_at}
-use Rattle.bits.proofs.Laws.{bits_joined}
 use Rattle.bits.proofs.read.Given as goal
 
 -- the value so far is that of the bits passed

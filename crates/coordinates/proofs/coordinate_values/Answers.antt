@@ -2,7 +2,7 @@ use Prim.Native.Nat.{◌≤◌}
 use mathlib.Core.Path.{◌≡◌, sym}
 use native.Mathlib.Omega.{arith}
 use borrow.Author.Rules.{rules}
-use lib.ListN.{length, take}
+use lib.ListN.{length}
 use lib.Seq.{length-take-le}
 use Rattle.coordinates.specs.Coordinates.{coordinate_values}
 use Rattle.coordinates.proofs.Narrow.{how_many_most, narrow_widths, narrow_take}

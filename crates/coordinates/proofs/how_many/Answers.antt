@@ -1,5 +1,4 @@
 use borrow.Author.Tests.{ne_eqb}
-use borrow.Author.Rules.{rules}
 use Rattle.coordinates.proofs.how_many.Goals as goal
 
 pub returns-then-precision-eq0 : goal.returns-then-precision-eq0

@@ -1,5 +1,4 @@
 use native.Mathlib.Omega.{arith}
-use borrow.Author.Rules.{rules}
 use Rattle.coordinates.proofs.width.Goals as goal
 
 pub returns-then-delta : goal.returns-then-delta

@@ -1,4 +1,3 @@
-use borrow.Author.Rules.{rules}
 use Rattle.coordinates.proofs.widths.Goals as goal
 
 pub returns-then-polar : goal.returns-then-polar

@@ -1,4 +1,3 @@
-use borrow.Author.Rules.{rules}
 use Rattle.rules.proofs.Laws.{readings}
 use Rattle.extensions.specs.Extensions.{extension}
 use Rattle.extensions.proofs.extension.Goals as goal

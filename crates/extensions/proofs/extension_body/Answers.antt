@@ -1,6 +1,5 @@
 use Prim.Native.Nat.{◌+◌, ◌≤◌}
 use native.Mathlib.Omega.{arith}
-use borrow.Author.Rules.{rules}
 use lib.Pow.{pow_mono}
 use Rattle.rules.proofs.Laws.{readings}
 use Rattle.extensions.specs.Extensions.{extension_body}

@@ -1,12 +1,8 @@
-use Prim.Native.Nat.{◌+◌, ◌-◌, ◌*◌, ◌≤◌}
-use mathlib.Core.Path.{◌≡◌, refl}
+use mathlib.Core.Path.{refl}
 use native.Mathlib.Omega.{arith}
 use native.Mathlib.Nat.{add-zero}
 use borrow.Author.Rules.{rules}
-use lib.ListN.{length}
-use Rattle.rules.specs.Name.{third}
-use Rattle.rules.proofs.Left.{Left, left_all}
-use Rattle.extensions.specs.Extensions.{extensions}
+use Rattle.rules.proofs.Left.{left_all}
 use Rattle.extensions.proofs.Loops.{extension_more, extension_last, extensions_over}
 use Rattle.extensions.proofs.extensions.Goals as goal
 

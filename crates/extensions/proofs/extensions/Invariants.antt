@@ -1,13 +1,9 @@
 use Prim.Native.Nat.{◌+◌, ◌-◌, ◌*◌, ◌≤◌}
-use mathlib.Core.Path.{◌≡◌, refl}
-use native.Mathlib.Omega.{arith}
-use native.Mathlib.Nat.{add-zero}
-use borrow.Author.Rules.{rules}
+use mathlib.Core.Path.{◌≡◌}
 use lib.ListN.{length}
 use Rattle.rules.specs.Name.{third}
-use Rattle.rules.proofs.Left.{Left, left_all}
+use Rattle.rules.proofs.Left.{Left}
 use Rattle.extensions.specs.Extensions.{extensions}
-use Rattle.extensions.proofs.Loops.{extension_more, extension_last, extensions_over}
 use Rattle.extensions.proofs.extensions.Given as goal
 
 -- the extensions from `i` on are left to be read

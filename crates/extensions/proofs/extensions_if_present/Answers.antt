@@ -1,4 +1,3 @@
-use borrow.Author.Rules.{rules}
 use Rattle.rules.proofs.Laws.{readings}
 use Rattle.extensions.specs.Extensions.{extensions_if_present}
 use Rattle.extensions.proofs.extensions_if_present.Goals as goal

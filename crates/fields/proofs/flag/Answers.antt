@@ -1,4 +1,3 @@
-use borrow.Author.Rules.{rules}
 use Rattle.rules.specs.Derived.{flag}
 use Rattle.rules.proofs.Laws.{readings}
 use Rattle.fields.proofs.flag.Goals as goal

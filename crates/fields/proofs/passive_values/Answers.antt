@@ -1,11 +1,10 @@
-use Prim.Native.Nat.{◌+◌, ◌-◌, ◌*◌, ◌≤◌, ◌<◌, ◌^◌}
-use mathlib.Core.Path.{◌≡◌, refl}
+use Prim.Native.Nat.{◌+◌, ◌-◌, ◌*◌, ◌<◌, ◌^◌}
+use mathlib.Core.Path.{refl}
 use native.Mathlib.Omega.{arith}
 use native.Mathlib.Nat.{sub-zero}
 use borrow.Author.Rules.{rules}
-use lib.ListN.{length, drop}
-use Rattle.rules.specs.Derived.{passive_values}
-use Rattle.rules.proofs.Left.{Left, left_all}
+use lib.ListN.{length}
+use Rattle.rules.proofs.Left.{left_all}
 use Rattle.fields.proofs.Loops.{narrow_at, names_more, values_more, values_none}
 use Rattle.fields.proofs.passive_values.Goals as goal
 

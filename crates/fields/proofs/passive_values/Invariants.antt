@@ -1,12 +1,8 @@
 use Prim.Native.Nat.{◌+◌, ◌-◌, ◌*◌, ◌≤◌, ◌<◌, ◌^◌}
-use mathlib.Core.Path.{◌≡◌, refl}
-use native.Mathlib.Omega.{arith}
-use native.Mathlib.Nat.{sub-zero}
-use borrow.Author.Rules.{rules}
+use mathlib.Core.Path.{◌≡◌}
 use lib.ListN.{length, drop}
 use Rattle.rules.specs.Derived.{passive_values}
-use Rattle.rules.proofs.Left.{Left, left_all}
-use Rattle.fields.proofs.Loops.{narrow_at, names_more, values_more, values_none}
+use Rattle.rules.proofs.Left.{Left}
 use Rattle.fields.proofs.passive_values.Given as goal
 
 -- the numbers from `i` on are left to be read, and their names are small

@@ -1,4 +1,3 @@
-use borrow.Author.Rules.{rules}
 use Rattle.rules.proofs.Laws.{readings}
 use Rattle.position.specs.Position.{changed}
 use Rattle.position.proofs.changed.Goals as goal

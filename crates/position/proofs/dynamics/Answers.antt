@@ -1,4 +1,3 @@
-use borrow.Author.Rules.{rules}
 use Rattle.rules.proofs.Laws.{readings}
 use Rattle.position.specs.Position.{dynamics}
 use Rattle.position.proofs.dynamics.Goals as goal

@@ -1,4 +1,3 @@
-use borrow.Author.Rules.{rules}
 use Rattle.rules.proofs.Laws.{readings}
 use Rattle.position.specs.Position.{flag_unless}
 use Rattle.position.proofs.flag_unless.Goals as goal

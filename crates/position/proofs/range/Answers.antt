@@ -1,4 +1,3 @@
-use borrow.Author.Rules.{rules}
 use Rattle.rules.proofs.Laws.{readings}
 use Rattle.position.specs.Position.{range}
 use Rattle.position.proofs.range.Goals as goal

@@ -1,4 +1,3 @@
-use borrow.Author.Rules.{rules}
 use Rattle.rules.proofs.Laws.{readings}
 use Rattle.position.specs.Position.{rotation}
 use Rattle.position.proofs.rotation.Goals as goal

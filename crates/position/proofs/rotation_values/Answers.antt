@@ -1,4 +1,3 @@
-use borrow.Author.Rules.{rules}
 use Rattle.position.specs.Position.{rotation_values}
 use Rattle.position.proofs.rotation_values.Goals as goal
 

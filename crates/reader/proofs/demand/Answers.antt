@@ -1,4 +1,3 @@
-use borrow.Author.Rules.{rules}
 use Rattle.rules.specs.Derived.{demand}
 use Rattle.rules.proofs.Laws.{readings}
 use Rattle.rules.proofs.Steps.{for_both}

@@ -1,5 +1,4 @@
 use borrow.Author.Tests.{le-leb, lt-leb}
-use borrow.Author.Rules.{rules}
 use Rattle.rules.specs.Derived.{entry}
 use Rattle.rules.proofs.Laws.{readings, demand_kept, demand_broken}
 use Rattle.rules.proofs.Steps.{for_words}

@@ -1,4 +1,3 @@
-use borrow.Author.Rules.{rules}
 use Rattle.rules.proofs.Steps.{steps}
 use Rattle.reader.proofs.invalid.Goals as goal
 

@@ -1,4 +1,3 @@
-use borrow.Author.Rules.{rules}
 use lib.Pow.{pow_pos}
 use Rattle.rules.proofs.Steps.{steps}
 use Rattle.reader.proofs.Onward.{took_bits}

@@ -1,4 +1,3 @@
-use borrow.Author.Rules.{rules}
 use Rattle.rules.proofs.Steps.{steps}
 use Rattle.reader.proofs.Onward.{skipped}
 use Rattle.reader.proofs.skip.Goals as goal

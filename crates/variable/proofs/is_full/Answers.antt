@@ -1,4 +1,3 @@
-use borrow.Author.Rules.{rules}
 use lib.Pow.{pow_pos}
 use Rattle.bits.proofs.Laws.{one_shifted}
 use Rattle.variable.proofs.is_full.Goals as goal

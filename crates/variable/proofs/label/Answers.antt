@@ -1,4 +1,3 @@
-use borrow.Author.Rules.{rules}
 use Rattle.rules.specs.Derived.{label}
 use Rattle.rules.proofs.Laws.{readings}
 use Rattle.variable.proofs.label.Goals as goal

@@ -1,9 +1,7 @@
-use Prim.Native.Nat.{◌≤◌, ◌-◌}
 use native.Mathlib.Omega.{arith}
 use native.Mathlib.Nat.{lt_of_lt_of_le}
 use borrow.Author.Rules.{rules}
-use Rattle.rules.specs.Derived.{label_bytes}
-use Rattle.rules.proofs.Left.{LeftByBytes, left_by_bytes_all}
+use Rattle.rules.proofs.Left.{left_by_bytes_all}
 use Rattle.reader.proofs.Onward.{took_bits}
 use Rattle.variable.proofs.Loops.{byte_more, byte_last, byte_none}
 use Rattle.variable.proofs.label_bytes.Goals as goal

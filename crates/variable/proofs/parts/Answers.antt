@@ -1,12 +1,10 @@
-use Prim.Native.Nat.{◌<◌, ◌≤◌, ◌-◌, ◌*◌, ◌^◌}
 use mathlib.Core.Path.{◌≡◌}
 use native.Mathlib.Omega.{arith}
 use borrow.Author.Rules.{rules}
-use lib.ListN.{length, drop}
-use Rattle.rules.specs.Derived.{parts}
+use lib.ListN.{length}
 use Rattle.reader.proofs.Onward.{took_bits}
 use Rattle.variable.proofs.Loops.{width_small, part_small, part_more, part_last, part_none}
-use Rattle.rules.proofs.Left.{LeftByBytes, left_by_bytes_all}
+use Rattle.rules.proofs.Left.{left_by_bytes_all}
 use Rattle.variable.proofs.parts.Goals as goal
 
 pub loop-i-init : goal.loop-i-init

@@ -1,12 +1,7 @@
-use Prim.Native.Nat.{◌<◌, ◌≤◌, ◌-◌, ◌*◌, ◌^◌}
-use mathlib.Core.Path.{◌≡◌}
-use native.Mathlib.Omega.{arith}
-use borrow.Author.Rules.{rules}
-use lib.ListN.{length, drop}
+use Prim.Native.Nat.{◌≤◌, ◌-◌, ◌*◌, ◌^◌}
+use lib.ListN.{drop}
 use Rattle.rules.specs.Derived.{parts}
-use Rattle.reader.proofs.Onward.{took_bits}
-use Rattle.variable.proofs.Loops.{width_small, part_small, part_more, part_last, part_none}
-use Rattle.rules.proofs.Left.{LeftByBytes, left_by_bytes_all}
+use Rattle.rules.proofs.Left.{LeftByBytes}
 use Rattle.variable.proofs.parts.Given as goal
 
 -- the parts passed are in the value, and those from `i` on are left to be read

@@ -1,5 +1,4 @@
 use native.Mathlib.Omega.{arith}
-use borrow.Author.Rules.{rules}
 use Rattle.position.proofs.PositionSyntax.with_precisions.Goals as goal
 
 pub returns : goal.returns
