@@ -14,7 +14,6 @@ use Rattle.rules.specs.contracts.Answer as answer-row
 use Rattle.rules.proofs.Answer.TheLaws as answer-laws
 use Rattle.rules.specs.contracts.Outcome as outcome-row
 use Rattle.rules.proofs.Outcome.TheLaws as outcome-laws
-use Rattle.runs.proofs.Sent.{W}
 
 abbrev IsAnswer : Answer → Type 0
 IsAnswer a = Is answer-row.the_row a (answer-laws.lowered a ∷ [])
@@ -22,7 +21,7 @@ IsAnswer a = Is answer-row.the_row a (answer-laws.lowered a ∷ [])
 pub answer_fits : World → (a : Answer) → IsAnswer a → WT (answer-laws.lowered a)
 answer_fits w a is =
     let typed : (vs : List Val) → Is answer-row.the_row a vs → Typed (answer-row.the_row).mir vs =
-    (lawful answer-row.the_type answer-laws.the_laws w.𝓛 (W w)).typed a in
+    (lawful answer-row.the_type answer-laws.the_laws w.𝓛).typed a in
     (typed (answer-laws.lowered a ∷ []) is).0.1
 
 outcome_is : (o : Outcome) → WT (outcome-laws.lowered o) → Is outcome-row.the_row o (outcome-laws.lowered o ∷ [])

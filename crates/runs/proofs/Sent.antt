@@ -29,7 +29,7 @@ use Rattle.owner.specs.Machine.{AllOf}
 use Rattle.owner.specs.Holds.{◌⊨◌}
 use Rattle.owner.proofs.Returns.{written}
 use Rattle.owner.proofs.Loans.{Kind, shared, mutable, value, Givens, Fits, Lefts, Made}
-use Rattle.owner.proofs.Placed.{Placed, part_out, part_in, number_placed}
+use Rattle.owner.proofs.Placed.{Placed, part_out, part_in, number_placed, number_lent}
 use Rattle.owner.proofs.Owner.{T, Says, promised}
 use Rattle.owner.proofs.Around.{Places, Has, Run, runs}
 use Rattle.owner.proofs.Cells.{well_typed}
@@ -98,7 +98,7 @@ module _ (w : World) where
   }
 
   pub number_made : Makes w.𝓛 builtin.usize (Is builtin.usize)
-  number_made = uint_Makes w.𝓛 W w64
+  number_made = uint_Makes w.𝓛 w64
 
   -- shapes that lie in cells are values of their type
   all_fit : (ss : List PositionSyntax) → AllOf shape-laws.mir (map shape-laws.lowered ss) → AllFit ss
@@ -127,10 +127,10 @@ module _ (w : World) (n : ℕ) (first : Within n 0) (second : Within n 1) (ks : 
   places = (bytes_placed w, (tt, (tt, (words_placed w, ps))))
 
   pub sent_runs : Tells R (Is R) (λ r. low r ∷ [])
-      → Meets w.𝓛 (T n kinds R).signature (w.𝓡.run ρ) (written w (T n kinds R) (promised n kinds R none E) ρ)
-      → Made (W w) ks → (p : Sent) → SentFits p → (rest : Givens ks) → Fits ks rest → (σ : Memory) (F : SProp w.𝓤)
+      → Meets w.𝓛 (T n kinds R).signature (w.𝓡.returns ρ) (written w (T n kinds R) (promised n kinds R none E) ρ)
+      → Made w.𝓛 ks → (p : Sent) → SentFits p → (rest : Givens ks) → Fits ks rest → (σ : Memory) (F : SProp w.𝓤)
       → Has n kinds R low w places ρ E σ (sent_given n first second ks p rest) F →
       ∥ Run n kinds R low w places ρ E (sent_given n first second ks p rest) σ F ∥₁
   sent_runs tells met made p ok rest fits σ F holds =
-      runs n kinds R low w places ρ E tells none met (tt, (number_made w, (bool_Makes w.𝓛 (W w), (tt, made))))
+      runs n kinds R low w places ρ E tells none met (number_lent w.𝓛 w8, (number_made w, (bool_Makes w.𝓛, (tt, made))))
       (sent_given n first second ks p rest) tt (sent_fits n first second ks p ok rest fits) σ F holds

@@ -4,11 +4,13 @@ use mathlib.Core.Path.{◌≡◌, refl, sym, ◌∙◌, subst}
 use mathlib.Core.List.{List, [], ◌∷◌, map}
 use mathlib.Core.Bool.{Bool}
 use mathlib.Core.Logic.{∥∥₁_prop, ∥∥₁_elim, ∥∥₁_map}
-use lib.ListN.{length, length-map, take}
+use lib.ListN.{length, take}
 use mir.Syntax.{w64}
 use mir.Val.{Val}
 use base.Logic.{SProp, sep, snd∗, via}
 use prog.Memory.{Memory}
+use prog.Routine.{Env}
+use prog.Wired.{Wired}
 use contract.Adequate.{sat_weaken}
 use denote.RattleType.{RattleType}
 use denote.Array.{Array, each, array_vals, Array-Makes}
@@ -45,10 +47,11 @@ use Rattle.owner.specs.Machine.{Ran}
 use Rattle.owner.specs.Holds.{◌⊨◌}
 use Rattle.owner.proofs.Loans.{Kind, mutable, value, Lefts, AsMany}
 use Rattle.owner.proofs.Owner.{T, Says}
+use Rattle.owner.proofs.Returns.{reading}
 use Rattle.runs.specs.Sent.{Variant, plain, exported, Sent, SentFits, passed, input_sent, AllFit, Bytes, Words, Shapes, SentInCells}
-use Rattle.runs.specs.Update.{Form, by_value, lent, update_routine, update_value, Handed, HandedFits, all_of, HandedInCells, Updated}
+use Rattle.runs.specs.Update.{Form, by_value, lent, update_routine, update_code, update_value, Handed, HandedFits, all_of, HandedInCells, Updated}
 use Rattle.runs.proofs.Sent.{sent_kinds, sent_given, words_left, rest_left, input_in, offset_in, recording_in, words_in, rest_in}
-use Rattle.runs.proofs.Sent.{W, number_made, shape_is, shapes_placed, shapes_fit, array_fits, sent_runs}
+use Rattle.runs.proofs.Sent.{number_made, shape_is, shapes_placed, shapes_fit, array_fits, sent_runs}
 
 -- ---- the parameters after the first: shapes and count, or the lent shapes
 abbrev ShapeArray : RattleType
@@ -99,11 +102,11 @@ module _ (w : World) where
 
   shapes_made : Makes w.𝓛 ShapeArray (Is ShapeArray)
   shapes_made =
-      Array-Makes w.𝓛 (W w) shape_row_lem.the_row (makes shape_row_lem.the_type shape-laws.the_plain w.𝓛) 63
+      Array-Makes w.𝓛 shape_row_lem.the_row (makes shape_row_lem.the_type shape-laws.the_plain w.𝓛) 63
 
   -- what is returned is a value of its type: 63 shapes, each of them one of its own
   result_typed : (a : UpdateAnswer) (vs : List Val) → Is update-row.the_row a vs → Typed (update-row.the_row).mir vs
-  result_typed = (lawful update-row.the_type update-laws.the_laws w.𝓛 (W w)).typed
+  result_typed = (lawful update-row.the_type update-laws.the_laws w.𝓛).typed
 
   result_fit : (a : UpdateAnswer) → Is update-row.the_row a (update-laws.lowered a ∷ []) → AllFit a.shapes
   result_fit a is = array_fits a.shapes (result_typed a (update-laws.lowered a ∷ []) is).0.1.1.0
@@ -111,7 +114,7 @@ module _ (w : World) where
   result_many : (a : UpdateAnswer) → Is update-row.the_row a (update-laws.lowered a ∷ []) → length a.shapes ≡ 63
   result_many a is =
       let array = (owed update-row.the_type update-laws.the_laws a (update-laws.lowered a ∷ []) is).1.0 in
-      sym (length-map a.shapes _) ∙ array.1.0.1
+      array.1.0.1
 
   -- ---- lent: what lies in a memory's cells is well typed
   left_fit : (p : Sent) (ws : List ℕ) (d : Cells PositionSyntax) (σ : Memory) (F : SProp w.𝓤) →
@@ -123,15 +126,15 @@ module _ (w : World) where
       (via w.𝓤 both (snd∗ w.𝓤 (Bytes w p.share p.bytes) both) (snd∗ w.𝓤 (Words w (refilled p.words ws)) shapes)) s)
 
   -- a run of either, by what was left of its parameters
-  lent_updated : (v : Variant) (p : Sent) (d : Cells PositionSyntax) (σ : Memory) (F : SProp w.𝓤) (answer : Answer) (left : Lefts lent_kinds) →
+  lent_updated : (γ : Env) (v : Variant) (p : Sent) (d : Cells PositionSyntax) (σ : Memory) (F : SProp w.𝓤) (answer : Answer) (left : Lefts lent_kinds) →
       AsMany lent_kinds (sent_given 3 tt tt in_cells p (d, tt)) left → (memory : Memory) →
       let words = words_left 3 tt tt in_cells left in
       let shapes = (rest_left 3 tt tt in_cells left).0 in
-      Ran (update_routine (lent v)) (passed p (slice d ∷ [])) σ (update_value (lent v) answer shapes) memory →
+      Ran (update_routine γ (lent v)) (passed p (slice d ∷ [])) σ (update_value (lent v) answer shapes) memory →
       ◌⊨◌ w memory (SentInCells w p words (sep w.𝓤 (Shapes w (refilled d shapes)) F)) →
       Answered (update_reading (input_sent p) p.offset (length d.held) d.held) d.held p.recording p.words.held answer shapes words →
-      ∥ Updated w (lent v) p d σ F ∥₁
-  lent_updated v p d σ F answer left many memory ran holds answered =
+      ∥ Updated w γ (lent v) p d σ F ∥₁
+  lent_updated γ v p d σ F answer left many memory ran holds answered =
       let words = words_left 3 tt tt in_cells left in
       let shapes = (rest_left 3 tt tt in_cells left).0 in
       ∥∥₁_map (left_fit p words (refilled d shapes) memory F holds) (λ fit. record {
@@ -148,13 +151,13 @@ module _ (w : World) where
         others_kept = tt;
       })
 
-  pub updates : (f : Form) (p : Sent) → SentFits p → (h : Handed f) → HandedFits f h → (σ : Memory) (F : SProp w.𝓤) →
-      ◌⊨◌ w σ (SentInCells w p p.words.held (HandedInCells w f h (all_of f h) F)) → ∥ Updated w f p h σ F ∥₁
-  updates by_value p ok h fits σ F holds =
+  pub updates : (γ : Env) (f : Form) → Wired γ (update_code f) → (p : Sent) → SentFits p → (h : Handed f) → HandedFits f h → (σ : Memory) (F : SProp w.𝓤) →
+      ◌⊨◌ w σ (SentInCells w p p.words.held (HandedInCells w f h (all_of f h) F)) → ∥ Updated w γ f p h σ F ∥₁
+  updates γ by_value has p ok h fits σ F holds =
       let array : Is ShapeArray h.shapes (array_vals (λ s. shape-laws.lowered s ∷ []) h.shapes) =
       (map shape-laws.lowered h.shapes, ((refl, fits.all), each_is h.shapes fits.fit)) in
-      ∥∥₁_map (sent_runs w 2 tt tt counted (tt, (tt, tt)) update-row.the_row update-laws.lowered (update_routine by_value) value_says
-      (update-laws.lowers).val_is (value-met w.𝓛 w.𝓜 w.𝓡) (shapes_made, (number_made w, tt)) p ok
+      ∥∥₁_map (sent_runs w 2 tt tt counted (tt, (tt, tt)) update-row.the_row update-laws.lowered (update_routine γ by_value) value_says
+      (update-laws.lowers).val_is (value-met w.𝓤 w.𝓛 w.𝓜 (reading w γ) has) (shapes_made, (number_made w, tt)) p ok
       (h.shapes, (h.count, tt)) (array, ((refl, fits.count), tt)) σ F holds) (λ t. record {
         answer = t.result.answer;
         words = words_left 2 tt tt counted t.left;
@@ -168,15 +171,15 @@ module _ (w : World) where
         answered = t.ensured.answered;
         others_kept = t.ensured.others;
       })
-  updates (lent plain) p ok d fits σ F holds =
-      ∥∥₁_elim (sent_runs w 3 tt tt in_cells (shapes_placed w, tt) answer-row.the_row answer-laws.lowered (update_routine (lent plain))
-      (lent_says answer-row.the_row Answered) (answer-laws.lowers).val_is (lent_met w.𝓛 w.𝓜 w.𝓡) (tt, tt) p ok
+  updates γ (lent plain) has p ok d fits σ F holds =
+      ∥∥₁_elim (sent_runs w 3 tt tt in_cells (shapes_placed w, tt) answer-row.the_row answer-laws.lowered (update_routine γ (lent plain))
+      (lent_says answer-row.the_row Answered) (answer-laws.lowers).val_is (lent_met w.𝓤 w.𝓛 w.𝓜 (reading w γ) has) (tt, tt) p ok
       (d, tt) (fits, tt) σ F holds) ∥∥₁_prop (λ t.
-      lent_updated plain p d σ F t.result t.left t.as_many t.memory t.ran t.holds t.ensured)
-  updates (lent exported) p ok d fits σ F holds =
-      ∥∥₁_elim (sent_runs w 3 tt tt in_cells (shapes_placed w, tt) exported-row.the_row exported-laws.lowered (update_routine (lent exported))
-      (lent_says exported-row.the_row Exported) (exported-laws.lowers).val_is (gateway-met w.𝓛 w.𝓜 w.𝓡) (tt, tt) p ok
+      lent_updated γ plain p d σ F t.result t.left t.as_many t.memory t.ran t.holds t.ensured)
+  updates γ (lent exported) has p ok d fits σ F holds =
+      ∥∥₁_elim (sent_runs w 3 tt tt in_cells (shapes_placed w, tt) exported-row.the_row exported-laws.lowered (update_routine γ (lent exported))
+      (lent_says exported-row.the_row Exported) (exported-laws.lowers).val_is (gateway-met w.𝓤 w.𝓛 w.𝓜 (reading w γ) has) (tt, tt) p ok
       (d, tt) (fits, tt) σ F holds) ∥∥₁_prop (λ t.
-      let Returns : GatewayAnswer → Type 0 = λ r. Ran (update_routine (lent exported)) (passed p (slice d ∷ [])) σ (exported-laws.lowered r) t.memory in
+      let Returns : GatewayAnswer → Type 0 = λ r. Ran (update_routine γ (lent exported)) (passed p (slice d ∷ [])) σ (exported-laws.lowered r) t.memory in
       let ran = subst Returns t.ensured.same t.ran in
-      lent_updated exported p d σ F t.ensured.answer t.left t.as_many t.memory ran t.holds t.ensured.answered)
+      lent_updated γ exported p d σ F t.ensured.answer t.left t.as_many t.memory ran t.holds t.ensured.answered)

@@ -3,24 +3,30 @@ use Rattle.std.specs.Prelude.{ℕ, ◌≡◌, List, [], length}
 use mir.Val.{Val}
 use base.Logic.{SProp}
 use prog.Memory.{Memory}
-use prog.Routine.{Routine}
+use prog.Routine.{Env, Routine}
+use prog.Wired.{Code}
 use borrow.Fn.World.{World}
 use Rattle.scene.specs.declared.SceneAnswer.{SceneAnswer}
 use Rattle.scene.specs.Scene.{scene_reading, SceneAnswered}
 use Rattle.scene.proofs.SceneAnswer.TheLaws as answer
-use Rattle.scene.proofs.read_scene.Symbol.{routine as read-scene-routine}
+use Rattle.scene.proofs.read_scene.Symbol.{name as read_scene, code as read_scene_code}
 use Rattle.gateway.specs.declared.GatewayScene.{GatewayScene}
 use Rattle.exported.specs.Exported.{exported as exported_answer}
 use Rattle.gateway.proofs.GatewayScene.TheLaws as exported-answer
-use Rattle.gateway.proofs.gateway_scene.Symbol.{routine as gateway-scene-routine}
+use Rattle.gateway.proofs.gateway_scene.Symbol.{name as gateway_scene, code as gateway_scene_code}
 use Rattle.owner.specs.Machine.{Ran}
 use Rattle.owner.specs.Holds.{◌⊨◌}
 use Rattle.runs.specs.Sent.{Variant, plain, exported, Sent, passed, input_sent, AllFit, SentInCells}
 
--- `scene::read_scene`, and `gateway_scene`
-abbrev pub scene_routine : Variant → Routine
-scene_routine plain = read-scene-routine
-scene_routine exported = gateway-scene-routine
+-- `scene::read_scene`, and `gateway_scene`, as they are in the environment γ; and the code that γ has of each, with that of what it
+-- calls, where it is `Wired` for it
+abbrev pub scene_routine : Env → Variant → Routine
+scene_routine γ plain = γ read_scene
+scene_routine γ exported = γ gateway_scene
+
+abbrev pub scene_code : Variant → Code
+scene_code plain = read_scene_code
+scene_code exported = gateway_scene_code
 
 abbrev pub exported_scene : SceneAnswer → GatewayScene
 exported_scene a = record { answer = exported_answer a.answer; count = a.count; shapes = a.shapes }
@@ -33,11 +39,11 @@ scene_value exported a = exported-answer.lowered (exported_scene a)
 -- A run from the memory σ, beside F. It ends, with the machine's value of an answer, in a memory that holds the bytes as they
 -- were, the words as they were left, no more and no fewer, and F as it was; and the answer and the words are as the scene's
 -- reading has them.
-pub record SceneRead (w : World) (v : Variant) (p : Sent) (σ : Memory) (F : SProp w.𝓤) : Type 1 where
+pub record SceneRead (w : World) (γ : Env) (v : Variant) (p : Sent) (σ : Memory) (F : SProp w.𝓤) : Type 1 where
   pub answer : SceneAnswer
   pub words : List ℕ
   pub memory : Memory
-  pub ran : Ran (scene_routine v) (passed p []) σ (scene_value v answer) memory
+  pub ran : Ran (scene_routine γ v) (passed p []) σ (scene_value v answer) memory
   pub words_many : length words ≡ length p.words.held
   pub shapes_fit : AllFit (answer).shapes
   pub holds : ◌⊨◌ w memory (SentInCells w p words F)

@@ -1,7 +1,7 @@
 -- What a call that reads a packet is given: the packet's bytes, where in them it begins, whether fields are recorded, and words
 -- to record them in. Bytes, words and shapes lie in cells of a memory.
 use Rattle.std.specs.Prelude.{ℕ, ◌<◌, ◌^◌, List, [], ◌∷◌, Bool}
-use seplogic.Ra.TreeShare.{full_share}
+use base.Fraction.{full_share}
 use Rattle.std.specs.Int.{w8, w64}
 use mir.Val.{Val, vint, vbool, WT}
 use base.Logic.{SProp, sep}

@@ -4,7 +4,8 @@ use Rattle.std.specs.Int.{w64}
 use mir.Val.{Val, vint}
 use base.Logic.{SProp, sep}
 use prog.Memory.{Memory}
-use prog.Routine.{Routine}
+use prog.Routine.{Env, Routine}
+use prog.Wired.{Code}
 use denote.Array.{array_val}
 use borrow.Fn.World.{World}
 use Rattle.rules.specs.declared.Answer.{Answer}
@@ -14,11 +15,11 @@ use Rattle.position.specs.declared.PositionSyntax.{PositionSyntax}
 use Rattle.position.proofs.PositionSyntax.TheLaws as shape
 use Rattle.update.specs.Update.{update_reading}
 use Rattle.update.proofs.UpdateAnswer.TheLaws as value-answer
-use Rattle.update.proofs.graph_update.Symbol.{routine as value-routine}
-use Rattle.lent.proofs.graph_update.Symbol.{routine as lent-routine}
+use Rattle.update.proofs.graph_update.Symbol.{name as value_update, code as value_code}
+use Rattle.lent.proofs.graph_update.Symbol.{name as lent_update, code as lent_code}
 use Rattle.exported.specs.Exported.{exported as exported_answer}
 use Rattle.exported.proofs.GatewayAnswer.TheLaws as exported-answer
-use Rattle.gateway.proofs.gateway_update.Symbol.{routine as exported-routine}
+use Rattle.gateway.proofs.gateway_update.Symbol.{name as exported_update, code as exported_code}
 use Rattle.owner.specs.Cells.{Cells, refilled, Slice, slice}
 use Rattle.owner.specs.Machine.{Ran}
 use Rattle.owner.specs.Holds.{◌⊨◌}
@@ -29,10 +30,16 @@ pub data Form : Type 0 where
   by_value : Form
   lent : Variant → Form
 
-abbrev pub update_routine : Form → Routine
-update_routine by_value = value-routine
-update_routine (lent plain) = lent-routine
-update_routine (lent exported) = exported-routine
+-- as they are in the environment γ; and the code that γ has of each, with that of what it calls, where it is `Wired` for it
+abbrev pub update_routine : Env → Form → Routine
+update_routine γ by_value = γ value_update
+update_routine γ (lent plain) = γ lent_update
+update_routine γ (lent exported) = γ exported_update
+
+abbrev pub update_code : Form → Code
+update_code by_value = value_code
+update_code (lent plain) = lent_code
+update_code (lent exported) = exported_code
 
 -- an array of shapes, of which the first `count` are in use
 pub record Counted : Type 0 where
@@ -89,12 +96,12 @@ HandedInCells w (lent v) d ss F = sep w.𝓤 (Shapes w (refilled d ss)) F
 -- A run from the memory σ, beside F. It ends, with the machine's value of an answer, in a memory that holds the bytes as they
 -- were, the words and the lent shapes as they were left, no more and no fewer, and F as it was. Answer, shapes and words are
 -- as the update's reading has them. By value the shapes are those of what is returned.
-pub record Updated (w : World) (f : Form) (p : Sent) (h : Handed f) (σ : Memory) (F : SProp w.𝓤) : Type 1 where
+pub record Updated (w : World) (γ : Env) (f : Form) (p : Sent) (h : Handed f) (σ : Memory) (F : SProp w.𝓤) : Type 1 where
   pub answer : Answer
   pub words : List ℕ
   pub shapes : List PositionSyntax
   pub memory : Memory
-  pub ran : Ran (update_routine f) (passed p (handed_values f h)) σ (update_value f answer shapes) memory
+  pub ran : Ran (update_routine γ f) (passed p (handed_values f h)) σ (update_value f answer shapes) memory
   pub words_many : length words ≡ length p.words.held
   pub shapes_many : length shapes ≡ length (all_of f h)
   pub shapes_fit : AllFit shapes
