@@ -1,0 +1,7 @@
+use Rattle.rules.proofs.Laws.{readings}
+use Rattle.configuration.specs.Configuration.{parameters_and_groups}
+use Rattle.configuration.proofs.parameters_and_groups.Goals as goal
+
+pub returns : goal.returns
+unfolding parameters_and_groups
+returns c = search readings depth 14
