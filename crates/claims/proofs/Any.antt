@@ -6,11 +6,12 @@ use mathlib.Core.List.{List, [], ◌∷◌, ◌++◌, map}
 use mathlib.Core.Logic.{∥∥₁_prop, ∥∥₁_elim, ∥∥₁_map}
 use native.Mathlib.Omega.{arith}
 use seplogic.Ra.Ura.{Ura}
-use seplogic.Ra.TreeShare.{full_share}
+use base.Fraction.{full_share}
 use mir.Syntax.{w8, w64, ty_int}
 use mir.Val.{vint, WT}
 use base.Logic.{SProp, ent, sep}
 use prog.Memory.{Memory}
+use prog.Routine.{Env}
 use prog.AdequacyRun.{start_mem}
 use prog.Wp.{run as bytes_run}
 use contract.Adequate.{sat_weaken, start_Satisfies}
@@ -34,7 +35,7 @@ use Rattle.runs.proofs.Sent.{all_shapes}
 use Rattle.runs.proofs.Scene.{scene_reads}
 use Rattle.runs.proofs.Update.{updates}
 use Rattle.claims.proofs.Calls.{accepted_by_step}
-use Rattle.claims.specs.Calls.{Call, packet_sent, Accepted, Next, Run, call_of, shapes_left, none, call, Wanted, packet_wanted, Possible, AllPossible, SentAll}
+use Rattle.claims.specs.Calls.{HasCode, Call, packet_sent, Accepted, Next, Run, call_of, shapes_left, none, call, Wanted, packet_wanted, Possible, AllPossible, SentAll}
 
 -- shapes that fit: some of them, and more
 fit_take : (n : ℕ) (ss : List PositionSyntax) → AllFit ss → AllFit (take n ss)
@@ -66,7 +67,7 @@ array_full s few =
 few_slice : (d : Cells PositionSyntax) → length d.held ≤ 63 → Slice 40 d
 few_slice d few = (omega arith, omega arith)
 
-module _ (w : World) where
+module _ (w : World) (γ : Env) where
   abbrev 𝓤 : Ura w.M
   𝓤 = w.𝓤
 
@@ -157,10 +158,10 @@ module _ (w : World) where
 
   -- a call that is wanted can be made, and leaves its owner ready for the next
   record Makes (q : Wanted Form) (σ : Memory) (s : List PositionSyntax) : Type 2 where
-    next : Next w σ s
+    next : Next w γ σ s
     packet_is : packet_sent next.sent ≡ packet_wanted q
     form_is : next.form ≡ q.form
-    then : (run : Run w next) → ∥ Ready run.memory (shapes_left w next run) ∥₁
+    then : (run : Run w γ next) → ∥ Ready run.memory (shapes_left w γ next run) ∥₁
 
   makes : (q : Wanted Form) {σ : Memory} {s : List PositionSyntax} (r : Ready σ s) → Put q r.memory (Shapes w (held r) ∗ r.beside) →
       (f : Form) → f ≡ q.form → Makes q σ s
@@ -211,16 +212,16 @@ module _ (w : World) where
   }
 
   -- so can all the calls of a list
-  sends : (qs : List (Wanted Form)) → AllPossible qs → {σ : Memory} {s : List PositionSyntax} → Ready σ s → ∥ SentAll w qs σ s ∥₁
-  sends [] ok {σ} {s} r = ∣ record { calls = []; memory = σ; shapes = s; through = none; packets_are = refl; forms_are = refl } ∣₁
-  sends (q ∷ qs) ok {σ} {s} r =
+  sends : HasCode γ → (qs : List (Wanted Form)) → AllPossible qs → {σ : Memory} {s : List PositionSyntax} → Ready σ s → ∥ SentAll w γ qs σ s ∥₁
+  sends has [] ok {σ} {s} r = ∣ record { calls = []; memory = σ; shapes = s; through = none; packets_are = refl; forms_are = refl } ∣₁
+  sends has (q ∷ qs) ok {σ} {s} r =
       ∥∥₁_elim (puts q ok.0 r.memory (Shapes w (held r) ∗ r.beside) r.has) ∥∥₁_prop (λ g.
       let m = makes q r g q.form refl in
       let k = m.next in
-      ∥∥₁_elim (updates w k.form k.sent k.sent_fits k.handed k.handed_fits k.memory k.beside k.has) ∥∥₁_prop (λ run.
+      ∥∥₁_elim (updates w γ k.form (has.updates k.form) k.sent k.sent_fits k.handed k.handed_fits k.memory k.beside k.has) ∥∥₁_prop (λ run.
       ∥∥₁_elim (m.then run) ∥∥₁_prop (λ next.
-      ∥∥₁_map (sends qs ok.1 next) (λ rest. record {
-        calls = call_of w k run ∷ rest.calls;
+      ∥∥₁_map (sends has qs ok.1 next) (λ rest. record {
+        calls = call_of w γ k run ∷ rest.calls;
         memory = rest.memory;
         shapes = rest.shapes;
         through = call k run rest.through;
@@ -229,7 +230,7 @@ module _ (w : World) where
       }))))
 
   -- the declared shapes of an accepted scene are put into cells of the memory that it left
-  ready : (scene : Call) (s : List PositionSyntax) (σ : Memory) → Accepted w scene s σ → ∥ Ready σ s ∥₁
+  ready : (scene : Call) (s : List PositionSyntax) (σ : Memory) → Accepted w γ scene s σ → ∥ Ready σ s ∥₁
   ready scene s σ a =
       let run = a.run in
       let fit : AllFit s = rw a.declared (fit_take run.answer.count run.answer.shapes run.shapes_fit) in
@@ -242,18 +243,18 @@ module _ (w : World) where
         beside = rest;
         has = t.2;
         fit = fit;
-        few = rw (accepted_by_step w scene s σ a).leaves (first_many scene.fed);
+        few = rw (accepted_by_step w γ scene s σ a).leaves (first_many scene.fed);
       })
 
-  pub any_list : (scene : Call) (s : List PositionSyntax) (σ : Memory) → Accepted w scene s σ →
-      (qs : List (Wanted Form)) → AllPossible qs → ∥ SentAll w qs σ s ∥₁
-  any_list scene s σ a qs ok = ∥∥₁_elim (ready scene s σ a) ∥∥₁_prop (sends qs ok)
+  pub any_list : HasCode γ → (scene : Call) (s : List PositionSyntax) (σ : Memory) → Accepted w γ scene s σ →
+      (qs : List (Wanted Form)) → AllPossible qs → ∥ SentAll w γ qs σ s ∥₁
+  any_list has scene s σ a qs ok = ∥∥₁_elim (ready scene s σ a) ∥∥₁_prop (sends has qs ok)
 
   -- a scene is read from a memory that has nothing else
-  pub any_scene : (q : Wanted Variant) → Possible q →
-      ∥ ((p : Sent) × (σ : Memory) × (F : SProp 𝓤) × (packet_sent p ≡ packet_wanted q) × SceneRead w q.form p σ F) ∥₁
-  any_scene q ok =
+  pub any_scene : HasCode γ → (q : Wanted Variant) → Possible q →
+      ∥ ((p : Sent) × (σ : Memory) × (F : SProp 𝓤) × (packet_sent p ≡ packet_wanted q) × SceneRead w γ q.form p σ F) ∥₁
+  any_scene has q ok =
       let nothing-else = sep 𝓤 (bytes_run 𝓤 w.𝓛.H full_share w8 0 0 []) (bytes_run 𝓤 w.𝓛.H full_share w8 1 0 []) in
       ∥∥₁_elim (puts q ok (start_mem [] []) nothing-else (start_Satisfies 𝓤 w.𝓛.H w.𝓜 [] [] tt tt)) ∥∥₁_prop (λ g.
-      ∥∥₁_map (scene_reads w q.form g.sent g.sent_fits g.memory nothing-else g.has) (λ run.
+      ∥∥₁_map (scene_reads w γ q.form (has.scenes q.form) g.sent g.sent_fits g.memory nothing-else g.has) (λ run.
       (g.sent, g.memory, nothing-else, g.packet_is, run)))

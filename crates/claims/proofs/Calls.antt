@@ -4,6 +4,7 @@ use mathlib.Core.Path.{◌≡◌, refl, sym, ◌∙◌, ap, subst}
 use mathlib.Core.List.{List, [], ◌∷◌}
 use mathlib.Core.Logic.{∥∥₁_prop, ∥∥₁_elim, ∥∥₁_map}
 use prog.Memory.{Memory}
+use prog.Routine.{Env}
 use borrow.Fn.World.{World}
 use lib.ListN.{length}
 use Rattle.position.specs.declared.PositionSyntax.{PositionSyntax}
@@ -15,34 +16,34 @@ use Rattle.book.proofs.Book.{first_ranked, update_leaves, shapes_many, shapes_ra
 use Rattle.book.proofs.Calls.{scene_by_step, update_by_step}
 use Rattle.runs.specs.Update.{all_of, count_of, used}
 use Rattle.runs.proofs.Update.{updates}
-use Rattle.claims.specs.Calls.{Call, Accepted, Next, Run, call_of, shapes_left, Through, none, call, Owner, Called, ListClaim}
+use Rattle.claims.specs.Calls.{HasCode, Call, Accepted, Next, Run, call_of, shapes_left, Through, none, call, Owner, Called, ListClaim}
 
-module _ (w : World) where
+module _ (w : World) (γ : Env) where
   -- a scene and a call are by their steps
-  pub accepted_by_step : (c : Call) (s : List PositionSyntax) (σ : Memory) → Accepted w c s σ → ByStep scene_step [] c s
+  pub accepted_by_step : (c : Call) (s : List PositionSyntax) (σ : Memory) → Accepted w γ c s σ → ByStep scene_step [] c s
   accepted_by_step c s σ a = rw (a.call_is, a.declared) (scene_by_step _ _ _ _ a.run.answered)
 
-  run_by_step : {σ : Memory} {s : List PositionSyntax} (k : Next w σ s) (run : Run w k) →
-      ByStep update_step s (call_of w k run) (shapes_left w k run)
+  run_by_step : {σ : Memory} {s : List PositionSyntax} (k : Next w γ σ s) (run : Run w γ k) →
+      ByStep update_step s (call_of w γ k run) (shapes_left w γ k run)
   run_by_step {σ} {s} k run =
       let at = used k.form k.handed (all_of k.form k.handed) in
       let count = k.count_is ∙ ap length k.found in
       let by = update_by_step _ k.sent.offset _ _ at (count_of k.form k.handed) run.answered count in
-      subst (λ (l : List PositionSyntax). ByStep update_step l (call_of w k run) (shapes_left w k run)) (sym k.found) by
+      subst (λ (l : List PositionSyntax). ByStep update_step l (call_of w γ k run) (shapes_left w γ k run)) (sym k.found) by
 
-  called_by_step : (s : List PositionSyntax) (c : Call) (t : List PositionSyntax) → Called w s c t → ByStep update_step s c t
+  called_by_step : (s : List PositionSyntax) (c : Call) (t : List PositionSyntax) → Called w γ s c t → ByStep update_step s c t
   called_by_step s c t k = rw (k.call_is, k.left_are) (run_by_step k.next k.run)
 
   -- calls through a memory are calls, each on the shapes that the one before left
-  pub through_ran : {σ ρ : Memory} {s t : List PositionSyntax} {cs : List Call} → Through w σ s cs ρ t → Ran (Called w) s cs t
+  pub through_ran : {σ ρ : Memory} {s t : List PositionSyntax} {cs : List Call} → Through w γ σ s cs ρ t → Ran (Called w γ) s cs t
   through_ran none = book.none
   through_ran {σ} (call k run r) = book.call (record { from = σ; next = k; run = run; call_is = refl; left_are = refl }) (through_ran r)
 
-  pub list_claim : (scene : Call) (s t : List PositionSyntax) (σ : Memory) (cs : List Call) → Accepted w scene s σ → Ran (Called w) s cs t →
-      ListClaim w scene s cs t
+  pub list_claim : (scene : Call) (s t : List PositionSyntax) (σ : Memory) (cs : List Call) → Accepted w γ scene s σ → Ran (Called w γ) s cs t →
+      ListClaim w γ scene s cs t
   list_claim scene s t σ cs a r =
       let first = accepted_by_step scene s σ a in
-      let all = booked update_step (Called w) called_by_step is_accepted update_leaves r in
+      let all = booked update_step (Called w γ) called_by_step is_accepted update_leaves r in
       record {
         scene_is = first.tells;
         first_are = first.leaves;
@@ -52,11 +53,11 @@ module _ (w : World) where
       }
 
   -- whoever has a call to make after each call makes them all
-  pub makes : (n : ℕ) (σ : Memory) (s : List PositionSyntax) → Owner w n σ s →
-      ∥ ((cs : List Call) × (ρ : Memory) × (t : List PositionSyntax) × Through w σ s cs ρ t × (length cs ≡ n)) ∥₁
-  makes zero σ s o = ∣ ([], σ, s, none, refl) ∣₁
-  makes (suc n) σ s o =
+  pub makes : HasCode γ → (n : ℕ) (σ : Memory) (s : List PositionSyntax) → Owner w γ n σ s →
+      ∥ ((cs : List Call) × (ρ : Memory) × (t : List PositionSyntax) × Through w γ σ s cs ρ t × (length cs ≡ n)) ∥₁
+  makes has zero σ s o = ∣ ([], σ, s, none, refl) ∣₁
+  makes has (suc n) σ s o =
       let k = o.0 in
-      ∥∥₁_elim (updates w k.form k.sent k.sent_fits k.handed k.handed_fits k.memory k.beside k.has) ∥∥₁_prop (λ run.
-      ∥∥₁_map (makes n run.memory (shapes_left w k run) (o.1 run)) (λ rest.
-      (call_of w k run ∷ rest.0, rest.1, rest.2, call k run rest.3, ap suc rest.4)))
+      ∥∥₁_elim (updates w γ k.form (has.updates k.form) k.sent k.sent_fits k.handed k.handed_fits k.memory k.beside k.has) ∥∥₁_prop (λ run.
+      ∥∥₁_map (makes has n run.memory (shapes_left w γ k run) (o.1 run)) (λ rest.
+      (call_of w γ k run ∷ rest.0, rest.1, rest.2, call k run rest.3, ap suc rest.4)))

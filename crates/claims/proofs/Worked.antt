@@ -8,6 +8,7 @@ use mathlib.Core.Logic.{∥∥₁_prop, ∥∥₁_elim, ∥∥₁_map}
 use native.Mathlib.Omega.{arith}
 use base.Logic.{SProp}
 use prog.Memory.{Memory}
+use prog.Routine.{Env}
 use borrow.Fn.World.{World}
 use lib.ListN.{length}
 use mir.Syntax.{w8}
@@ -23,7 +24,7 @@ use Rattle.runs.specs.Scene.{SceneRead}
 use Rattle.runs.specs.Update.{Form, by_value, lent}
 use Rattle.examples.specs.Rows.{Row, part0, part1, part2, part3}
 use Rattle.examples.proofs.Rows.{all_rows}
-use Rattle.claims.specs.Calls.{Call, packet_sent, packet_wanted, Accepted, Wanted, Possible, AllPossible, SentAll}
+use Rattle.claims.specs.Calls.{HasCode, Call, packet_sent, packet_wanted, Accepted, Wanted, Possible, AllPossible, SentAll}
 use Rattle.claims.proofs.Any.{any_scene, any_list}
 
 -- from bit 0, recording off, no words
@@ -58,9 +59,9 @@ packets_possible =
 scene_read : outcome_of (book_scene (packet_wanted scene)).result ≡ Read
 scene_read = let row = all_rows.1.1.1.1.1.1.0 in ap (λ (r : Row). r.outcome) row
 
-module _ (w : World) where
-  accepted : (p : Sent) (σ : Memory) (F : SProp w.𝓤) → packet_sent p ≡ packet_wanted scene → SceneRead w plain p σ F →
-      (c : Call) × (s : List PositionSyntax) × (ρ : Memory) × Accepted w c s ρ
+module _ (w : World) (γ : Env) (has : HasCode γ) where
+  accepted : (p : Sent) (σ : Memory) (F : SProp w.𝓤) → packet_sent p ≡ packet_wanted scene → SceneRead w γ plain p σ F →
+      (c : Call) × (s : List PositionSyntax) × (ρ : Memory) × Accepted w γ c s ρ
   accepted p σ F fed run = (
     _,
     _,
@@ -82,8 +83,8 @@ module _ (w : World) where
     },
   )
 
-  pub worked : ∥ ((c : Call) × (s : List PositionSyntax) × (ρ : Memory) × Accepted w c s ρ × SentAll w packets ρ s) ∥₁
+  pub worked : ∥ ((c : Call) × (s : List PositionSyntax) × (ρ : Memory) × Accepted w γ c s ρ × SentAll w γ packets ρ s) ∥₁
   worked =
-      ∥∥₁_elim (any_scene w scene scene_possible) ∥∥₁_prop (λ t.
+      ∥∥₁_elim (any_scene w γ has scene scene_possible) ∥∥₁_prop (λ t.
       let a = accepted t.0 t.1 t.2 t.3 t.4 in
-      ∥∥₁_map (any_list w a.0 a.1 a.2 a.3 packets packets_possible) (λ all. (a.0, a.1, a.2, a.3, all)))
+      ∥∥₁_map (any_list w γ has a.0 a.1 a.2 a.3 packets packets_possible) (λ all. (a.0, a.1, a.2, a.3, all)))

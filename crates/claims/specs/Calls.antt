@@ -3,6 +3,8 @@ use Rattle.std.specs.Prelude.{ℕ, zero, suc, ◌<◌, ◌^◌, ◌≡◌, List,
 use Rattle.std.specs.Int.{w8, w64}
 use base.Logic.{SProp}
 use prog.Memory.{Memory}
+use prog.Routine.{Env}
+use prog.Wired.{Wired}
 use borrow.Fn.World.{World}
 use Rattle.rules.specs.Reading.{is_read}
 use Rattle.position.specs.declared.PositionSyntax.{PositionSyntax}
@@ -13,8 +15,8 @@ use Rattle.owner.specs.Cells.{Slice, at_block}
 use Rattle.owner.specs.Machine.{Writes, AllBelow}
 use Rattle.owner.specs.Holds.{◌⊨◌}
 use Rattle.runs.specs.Sent.{Variant, Sent, SentFits, SentInCells}
-use Rattle.runs.specs.Scene.{SceneRead}
-use Rattle.runs.specs.Update.{Form, Handed, HandedFits, all_of, count_of, used, HandedInCells, Updated}
+use Rattle.runs.specs.Scene.{scene_code, SceneRead}
+use Rattle.runs.specs.Update.{Form, update_code, Handed, HandedFits, all_of, count_of, used, HandedInCells, Updated}
 
 -- a call as it went: the packet that it was fed, and what it gave
 abbrev pub Call : Type 0
@@ -24,7 +26,12 @@ Call = book.Call Packet Given
 abbrev pub packet_sent : Sent → Packet
 packet_sent p = packet_of p.bytes.held p.offset p.recording p.words.held
 
-module _ (w : World) where
+-- The environment γ has the code of each function that is called, with that of all that it calls.
+pub record HasCode (γ : Env) : Type 0 where
+  pub scenes : (v : Variant) → Wired γ (scene_code v)
+  pub updates : (f : Form) → Wired γ (update_code f)
+
+module _ (w : World) (γ : Env) where
   -- A call c of a scene reading that was accepted. Its declared shapes are s, no more and no fewer than its count, and it left
   -- the memory ρ.
   pub record Accepted (c : Call) (s : List PositionSyntax) (ρ : Memory) : Type 2 where
@@ -32,7 +39,7 @@ module _ (w : World) where
     pub sent : Sent
     pub memory : Memory
     pub beside : SProp w.𝓤
-    pub run : SceneRead w variant sent memory beside
+    pub run : SceneRead w γ variant sent memory beside
     pub call_is : c ≡ record { fed = packet_sent sent; told = given_by sent.recording run.answer.answer run.words }
     pub read : is_read run.answer.answer.outcome ≡ true
     pub declared : s ≡ take run.answer.count run.answer.shapes
@@ -55,7 +62,7 @@ module _ (w : World) where
     pub found : s ≡ used form handed (all_of form handed)
 
   abbrev pub Run : {σ : Memory} {s : List PositionSyntax} → Next σ s → Type 1
-  Run k = Updated w k.form k.sent k.handed k.memory k.beside
+  Run k = Updated w γ k.form k.sent k.handed k.memory k.beside
 
   -- the call as it went, and the shapes that it left: in what it gave back, or in its cells
   abbrev pub call_of : {σ : Memory} {s : List PositionSyntax} (k : Next σ s) → Run k → Call
@@ -124,10 +131,10 @@ AllPossible [] = Unit {0}
 AllPossible (q ∷ qs) = Possible q × AllPossible qs
 
 -- The calls that were wanted, made one after another from the memory σ on the shapes s.
-pub record SentAll (w : World) (qs : List (Wanted Form)) (σ : Memory) (s : List PositionSyntax) : Type 2 where
+pub record SentAll (w : World) (γ : Env) (qs : List (Wanted Form)) (σ : Memory) (s : List PositionSyntax) : Type 2 where
   pub calls : List Call
   pub memory : Memory
   pub shapes : List PositionSyntax
-  pub through : Through w σ s calls memory shapes
+  pub through : Through w γ σ s calls memory shapes
   pub packets_are : all_fed calls ≡ map packet_wanted qs
-  pub forms_are : forms w through ≡ map (λ q. q.form) qs
+  pub forms_are : forms w γ through ≡ map (λ q. q.form) qs
