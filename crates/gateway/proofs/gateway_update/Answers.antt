@@ -1,0 +1,5 @@
+use borrow.Author.Rules.{rules}
+use Rattle.gateway.proofs.gateway_update.Goals as goal
+
+pub returns : goal.returns
+returns c = record { answer = _; answered = c.graph_update-a.ensures; same = c.exported.ensures }
