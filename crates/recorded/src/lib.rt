@@ -1,12 +1,12 @@
-// What a record of the oracle holds, as replay reads it from standard input: its head, shapes, the words of fields, the bytes of
+// What a record of the oracle holds, as replay reads it from its input: its head, shapes, the words of fields, the bytes of
 // a text, and whether what a call answered and left is that. `oracle/README.md` says how a record is laid out.
 #![tactic(auto)]
 
 ghost use Rattle.std.specs.Prelude.{◌≤◌};
 
-use libc::STDIN_FILENO;
 use position::PositionSyntax;
 use rules::{Answer, Outcome};
+use std::io::Read;
 use text::TextAnswer;
 
 // The `n` bytes from `at`, as a number.
@@ -43,20 +43,20 @@ pub fn clear(words: &mut [u64]) {
 }
 
 // Word `i` as it should be: of `n` recorded ones the next of the input, and those after them as they were.
-fn expected(i: usize, n: usize) -> u64 {
+fn expected<R: Read>(input: &mut R, i: usize, n: usize) -> u64 {
     if n <= i {
         return blank(i);
     }
     let mut b = [0u8; 8];
-    io::read_full(STDIN_FILENO, &mut b);
+    input::read_input(input, &mut b);
     number(&b, 0, 8)
 }
 
 // The last word that is not as it should be, counted from 1, or 0.
-pub fn wrong_words(words: &[u64], n: usize) -> usize {
+pub fn wrong_words<R: Read>(input: &mut R, words: &[u64], n: usize) -> usize {
     let mut wrong: usize = 0;
     for i in 0..words.len() {
-        if words[i] != expected(i, n) {
+        if words[i] != expected(input, i, n) {
             wrong = i + 1;
         }
     }
@@ -64,17 +64,17 @@ pub fn wrong_words(words: &[u64], n: usize) -> usize {
 }
 
 // The next count, of 2 bytes.
-pub fn next_count() -> usize {
+pub fn next_count<R: Read>(input: &mut R) -> usize {
     let mut b = [0u8; 2];
-    io::read_full(STDIN_FILENO, &mut b);
+    input::read_input(input, &mut b);
     number(&b, 0, 2) as usize
 }
 
 // The next shape: flags (1 byte: parent dynamic, range dynamic, polar from the lowest bit), three bytes of 0, the
 // precisions (4 each) and the parent (8).
-pub fn next_shape() -> PositionSyntax {
+pub fn next_shape<R: Read>(input: &mut R) -> PositionSyntax {
     let mut b = [0u8; 20];
-    io::read_full(STDIN_FILENO, &mut b);
+    input::read_input(input, &mut b);
     let flags = number(&b, 0, 1);
     PositionSyntax {
         parent_dynamic: flags % 2 == 1,
@@ -99,12 +99,12 @@ fn undeclared() -> PositionSyntax {
 }
 
 // The next `n` shapes, and undeclared ones after them.
-pub fn next_shapes(n: usize) -> [PositionSyntax; 63] {
+pub fn next_shapes<R: Read>(input: &mut R, n: usize) -> [PositionSyntax; 63] {
     let other = undeclared();
     let mut shapes = [other; 63];
     for i in 0..63 {
         if i < n {
-            let shape = next_shape();
+            let shape = next_shape(input);
             shapes[i] = shape;
         }
     }
@@ -121,12 +121,17 @@ pub fn same_shape(a: PositionSyntax, b: PositionSyntax) -> bool {
 }
 
 // Whether the first `n` shapes are the next of the input, and the others those of `others`.
-pub fn same_shapes(shapes: [PositionSyntax; 63], n: usize, others: [PositionSyntax; 63]) -> bool {
+pub fn same_shapes<R: Read>(
+    input: &mut R,
+    shapes: [PositionSyntax; 63],
+    n: usize,
+    others: [PositionSyntax; 63],
+) -> bool {
     let mut same = true;
     for i in 0..63 {
         let mut expected = others[i];
         if i < n {
-            expected = next_shape();
+            expected = next_shape(input);
         }
         let shape = shapes[i];
         if !same_shape(shape, expected) {
@@ -159,20 +164,20 @@ pub fn clear_bytes(bytes: &mut [u8]) {
 }
 
 // Byte `i` as it should be: of a text of `n` bytes the next of the input, and those after it as they were.
-fn expected_byte(i: usize, n: usize) -> u8 {
+fn expected_byte<R: Read>(input: &mut R, i: usize, n: usize) -> u8 {
     if n <= i {
         return BLANK;
     }
     let mut b = [0u8; 1];
-    io::read_full(STDIN_FILENO, &mut b);
+    input::read_input(input, &mut b);
     b[0]
 }
 
 // The last byte that is not as it should be, counted from 1, or 0.
-fn wrong_bytes(bytes: &[u8], n: usize) -> usize {
+fn wrong_bytes<R: Read>(input: &mut R, bytes: &[u8], n: usize) -> usize {
     let mut wrong: usize = 0;
     for i in 0..bytes.len() {
-        if bytes[i] != expected_byte(i, n) {
+        if bytes[i] != expected_byte(input, i, n) {
             wrong = i + 1;
         }
     }
@@ -181,8 +186,8 @@ fn wrong_bytes(bytes: &[u8], n: usize) -> usize {
 
 // Whether a text, put into bytes that were blank, and its answer are as recorded. The record has the text's length in the
 // place of the fields.
-pub fn text_agrees(head: &[u8; 34], a: TextAnswer, bytes: &[u8]) -> bool {
-    let wrong = wrong_bytes(bytes, number(head, 30, 4) as usize);
+pub fn text_agrees<R: Read>(input: &mut R, head: &[u8; 34], a: TextAnswer, bytes: &[u8]) -> bool {
+    let wrong = wrong_bytes(input, bytes, number(head, 30, 4) as usize);
     let outcome = a.outcome;
     let answer = Answer {
         outcome,

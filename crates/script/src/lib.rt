@@ -5,8 +5,8 @@
 ghost use Rattle.std.specs.Prelude.{◌≤◌};
 ghost use Rattle.rules.specs.Met.{Sound};
 
-use libc::STDIN_FILENO;
 use rules::State;
+use std::io::Read;
 
 // An operation: its code (1 byte), how often it is repeated (2), three numbers (4 each) and a name word (8).
 #[derive(Clone, Copy)]
@@ -21,9 +21,9 @@ struct Operation {
 
 impl Operation {
     // The next one of the input.
-    fn next() -> Operation {
+    fn next<R: Read>(input: &mut R) -> Operation {
         let mut b = [0u8; 23];
-        io::read_full(STDIN_FILENO, &mut b);
+        input::read_input(input, &mut b);
         Operation {
             code: recorded::number(&b, 0, 1),
             times: recorded::number(&b, 1, 2),
@@ -157,14 +157,21 @@ fn repeated(bytes: &[u8], words: &mut [u64], s: State, o: Operation) -> State
     t
 }
 
-// The operations of a record, read from standard input one after the other.
-pub fn operations(bytes: &[u8], words: &mut [u64], s: State, n: u64) -> State
+// The operations of a record, read one after the other.
+pub fn operations<R: Read>(
+    input: &mut R,
+    bytes: &[u8],
+    words: &mut [u64],
+    s: State,
+    n: u64,
+) -> State
     requires { Sound s }
     ensures { Sound result }
 {
     let mut t = s;
     for _ in 0..n {
-        t = repeated(bytes, words, t, Operation::next());
+        let o = Operation::next(input);
+        t = repeated(bytes, words, t, o);
     }
     t
 }
