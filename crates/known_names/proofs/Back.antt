@@ -21,7 +21,7 @@ use Rattle.metadata.specs.Entry.{metadata_reading}
 use Rattle.laws.specs.Named.{AllNamed}
 use Rattle.laws.proofs.Front.{entry_fits}
 use Rattle.laws.proofs.Back.{field_back}
-use Rattle.known_names.specs.Known.{Known, AllKnown, ReadBackKnown, RecordedKnown}
+use Rattle.known_names.specs.Known.{Known, AllKnown, RecordedKnown}
 use Rattle.known_names.proofs.Position.{position_alone_known}
 use Rattle.known_names.proofs.Scene.{scene_known}
 use Rattle.known_names.proofs.Update.{update_known}
