@@ -9,7 +9,7 @@ use borrow.Author.Tests.{lt-ltb, le-ltb, lt-leb, le-leb, eq-eqb, ne_eqb}
 use lib.ListN.{length}
 use lib.Dec.{leb}
 use Rattle.rules.specs.declared.FieldValue.{FieldValue}
-use Rattle.rules.specs.Rule.{Rule, ends, End, refused, ◌>>=◌, ◌>>◌, position, end, bits, skip, set_end, field}
+use Rattle.rules.specs.Rule.{Rule, End, refused, ◌>>=◌, position, end, bits, skip, set_end, field}
 use Rattle.rules.specs.Reading.{Input, reading, ended_at, has_room}
 use Rattle.rules.specs.Derived.{take, flag, parts, escaped, passive_bits, label_bytes, label, demand, remaining, count, entry}
 use Rattle.bits.specs.Bits.{bits_at}

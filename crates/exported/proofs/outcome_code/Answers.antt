@@ -1,4 +1,3 @@
-use borrow.Author.Rules.{rules}
 use Rattle.exported.proofs.outcome_code.Goals as goal
 
 pub returns-in-Read : goal.returns-in-Read

@@ -1,4 +1,3 @@
-use borrow.Author.Rules.{rules}
 use Rattle.lent.proofs.Answers.{same_question, update_read, update_ended, few}
 use Rattle.lent.proofs.graph_update.Goals as goal
 

@@ -1,13 +1,7 @@
 use Prim.Native.Nat.{◌≤◌, ◌-◌}
-use mathlib.Core.Path.{◌≡◌, refl, ap, ◌∙◌}
-use native.Mathlib.Omega.{arith}
-use borrow.Author.Rules.{rules}
-use lib.ListN.{take, drop, get_or}
-use lib.Seq.{take-length}
-use Rattle.position.specs.Shape.{default}
-use Rattle.position.specs.Formed.{is_shaped}
+use mathlib.Core.Path.{◌≡◌}
+use lib.ListN.{take, drop}
 use Rattle.update.specs.Update.{all_shaped}
-use Rattle.update.proofs.Questions.{shape_kept, shape_broken, shapes_kept, too_many, all_asked}
 use Rattle.lent.proofs.question.Given as goal
 
 -- the shapes before `i` are as they should be

@@ -1,4 +1,3 @@
-use borrow.Author.Rules.{rules}
 use Rattle.lent.proofs.Answers.{as_it_came, as_read, of_shape}
 use Rattle.lent.proofs.read_position.Goals as goal
 

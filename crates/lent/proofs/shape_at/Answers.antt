@@ -1,5 +1,4 @@
 use mathlib.Core.Path.{sym}
-use native.Mathlib.Omega.{arith}
 use lib.ListN.{get_or-eq_default}
 use Rattle.lent.proofs.Copies.{get_d_within}
 use Rattle.lent.proofs.shape_at.Goals as goal

@@ -1,4 +1,3 @@
-use borrow.Author.Rules.{rules}
 use Rattle.lent.proofs.Answers.{validated}
 use Rattle.lent.proofs.validate_graph.Goals as goal
 

@@ -1,7 +1,6 @@
-use Prim.Native.Nat.{◌≤◌, ◌-◌}
-use mathlib.Core.Path.{◌≡◌, refl, sym}
+use mathlib.Core.Path.{refl, sym}
 use native.Mathlib.Omega.{arith}
-use lib.ListN.{length, length-set, take}
+use lib.ListN.{length-set}
 use Rattle.lent.proofs.Copies.{one_more, all_copied}
 use Rattle.lent.proofs.write_back.Goals as goal
 

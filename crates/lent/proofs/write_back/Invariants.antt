@@ -1,8 +1,6 @@
 use Prim.Native.Nat.{◌≤◌, ◌-◌}
-use mathlib.Core.Path.{◌≡◌, refl, sym}
-use native.Mathlib.Omega.{arith}
-use lib.ListN.{length, length-set, take}
-use Rattle.lent.proofs.Copies.{one_more, all_copied}
+use mathlib.Core.Path.{◌≡◌}
+use lib.ListN.{length, take}
 use Rattle.lent.proofs.write_back.Given as goal
 
 -- the lent shapes have the first i of the array

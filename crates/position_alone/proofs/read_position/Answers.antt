@@ -1,6 +1,5 @@
 use mathlib.Core.Path.{refl}
 use native.Mathlib.Omega.{arith}
-use borrow.Author.Rules.{rules}
 use Rattle.rules.proofs.Laws.{fresh_sound}
 use Rattle.rules.proofs.Answers.{call_gives, answered}
 use Rattle.position_alone.proofs.read_position.Goals as goal

@@ -1,4 +1,3 @@
-use borrow.Author.Rules.{rules}
 use Rattle.rules.proofs.Laws.{readings}
 use Rattle.positions.specs.Positions.{position_at}
 use Rattle.positions.proofs.position_at.Goals as goal

@@ -1,11 +1,10 @@
-use Prim.Native.Nat.{◌-◌}
 use mathlib.Core.Path.{◌≡◌, refl}
 use native.Mathlib.Omega.{arith}
 use borrow.Author.Rules.{rules}
 use lib.ListN.{length}
 use Rattle.position.specs.Shape.{default}
-use Rattle.positions.specs.Positions.{position_at, positions}
-use Rattle.positions.proofs.Loops.{Reached, reached_none, next_at, reached_more, reached_all, reached_over, others_kept}
+use Rattle.positions.specs.Positions.{positions}
+use Rattle.positions.proofs.Loops.{reached_none, next_at, reached_more, reached_all, reached_over, others_kept}
 use Rattle.positions.proofs.positions.Goals as goal
 
 pub loop-i-init : goal.loop-i-init

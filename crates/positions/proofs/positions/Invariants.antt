@@ -1,11 +1,8 @@
 use Prim.Native.Nat.{◌-◌}
-use mathlib.Core.Path.{◌≡◌, refl}
-use native.Mathlib.Omega.{arith}
-use borrow.Author.Rules.{rules}
+use mathlib.Core.Path.{◌≡◌}
 use lib.ListN.{length}
-use Rattle.position.specs.Shape.{default}
-use Rattle.positions.specs.Positions.{position_at, positions}
-use Rattle.positions.proofs.Loops.{Reached, reached_none, next_at, reached_more, reached_all, reached_over, others_kept}
+use Rattle.positions.specs.Positions.{position_at}
+use Rattle.positions.proofs.Loops.{Reached}
 use Rattle.positions.proofs.positions.Given as goal
 
 -- the positions before `i` are read

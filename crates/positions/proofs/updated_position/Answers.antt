@@ -1,4 +1,3 @@
-use borrow.Author.Rules.{rules}
 use Rattle.rules.proofs.Laws.{readings}
 use Rattle.positions.specs.Positions.{updated_position}
 use Rattle.positions.proofs.updated_position.Goals as goal

@@ -1,9 +1,6 @@
-use Prim.Native.Nat.{suc, ◌≤◌, ◌-◌}
-use mathlib.Core.Path.{◌≡◌, sym, ◌∙◌}
+use mathlib.Core.Path.{sym, ◌∙◌}
 use native.Mathlib.Nat.{sub-zero}
 use borrow.Author.Rules.{rules}
-use lib.ListN.{length}
-use Rattle.ranks.specs.Rank.{climb, chain}
 use Rattle.ranks.proofs.Chains.{climb_none, climb_end, climb_out, climb_turn}
 use Rattle.ranks.proofs.climb.Goals as goal
 

@@ -1,10 +1,7 @@
 use Prim.Native.Nat.{suc, ◌≤◌, ◌-◌}
-use mathlib.Core.Path.{◌≡◌, sym, ◌∙◌}
-use native.Mathlib.Nat.{sub-zero}
-use borrow.Author.Rules.{rules}
+use mathlib.Core.Path.{◌≡◌}
 use lib.ListN.{length}
 use Rattle.ranks.specs.Rank.{climb, chain}
-use Rattle.ranks.proofs.Chains.{climb_none, climb_end, climb_out, climb_turn}
 use Rattle.ranks.proofs.climb.Given as goal
 
 -- what is left of the chain, looked at for what is left of the numbers, is the whole chain's answer

@@ -1,10 +1,8 @@
-use Prim.Native.Nat.{◌≤◌, ◌-◌}
-use mathlib.Core.Path.{◌≡◌, sym, ◌∙◌}
+use mathlib.Core.Path.{◌∙◌}
 use native.Mathlib.Nat.{sub-zero}
 use borrow.Author.Rules.{rules}
-use lib.ListN.{length}
 use Rattle.ranks.specs.declared.Chain.TheVariants.{Ends, Leaves, Returns}
-use Rattle.ranks.specs.Rank.{judge, verdict}
+use Rattle.ranks.specs.Rank.{verdict}
 use Rattle.ranks.proofs.Chains.{judge_turn, judge_end}
 use Rattle.ranks.proofs.judge.Goals as goal
 

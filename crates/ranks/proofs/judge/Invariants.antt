@@ -1,11 +1,7 @@
 use Prim.Native.Nat.{◌≤◌, ◌-◌}
-use mathlib.Core.Path.{◌≡◌, sym, ◌∙◌}
-use native.Mathlib.Nat.{sub-zero}
-use borrow.Author.Rules.{rules}
+use mathlib.Core.Path.{◌≡◌}
 use lib.ListN.{length}
-use Rattle.ranks.specs.declared.Chain.TheVariants.{Ends, Leaves, Returns}
 use Rattle.ranks.specs.Rank.{judge, verdict}
-use Rattle.ranks.proofs.Chains.{judge_turn, judge_end}
 use Rattle.ranks.proofs.judge.Given as goal
 
 -- the number is that by the positions after `i`

@@ -1,6 +1,5 @@
-use mathlib.Core.Path.{sym, ap, ◌∙◌}
+use mathlib.Core.Path.{ap}
 use Rattle.ranks.specs.Rank.{rank_in}
-use borrow.Author.Rules.{rules}
 use Rattle.ranks.proofs.rank.Goals as goal
 
 pub returns-in-Ends : goal.returns-in-Ends

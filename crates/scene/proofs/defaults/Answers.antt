@@ -1,4 +1,3 @@
-use borrow.Author.Rules.{rules}
 use Rattle.scene.specs.Scene.{defaults}
 use Rattle.scene.proofs.defaults.Goals as goal
 

@@ -1,5 +1,4 @@
 use mathlib.Core.Path.{refl}
-use borrow.Author.Rules.{rules}
 use Rattle.positions.proofs.Then.{behind_entry}
 use Rattle.scene.proofs.entered.Goals as goal
 

@@ -1,7 +1,6 @@
 use mathlib.Core.List.{[]}
 use mathlib.Core.Path.{sym, ◌∙◌, refl}
 use native.Mathlib.Omega.{arith}
-use borrow.Author.Rules.{rules}
 use Rattle.rules.proofs.Laws.{fresh_sound}
 use Rattle.rules.proofs.Answers.{call_gives, answered_read, answered_ended}
 use Rattle.scene.proofs.Scenes.{defaults_length, scene_answered}

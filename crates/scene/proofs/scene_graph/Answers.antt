@@ -1,4 +1,3 @@
-use borrow.Author.Rules.{rules}
 use Rattle.scene.specs.Scene.{scene_graph}
 use Rattle.positions.proofs.Then.{then_asked}
 use Rattle.scene.proofs.scene_graph.Goals as goal

@@ -1,7 +1,6 @@
 use mathlib.Core.Path.{sym, ◌∙◌}
 use native.Mathlib.Omega.{arith}
 use Rattle.show_header.proofs.Sound.{end_next, end_last}
-use borrow.Author.Rules.{rules}
 use Rattle.show_header.proofs.end_of.Goals as goal
 
 pub returns-then-k-part_count : goal.returns-then-k-part_count

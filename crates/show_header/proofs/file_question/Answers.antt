@@ -1,6 +1,5 @@
 use mathlib.Core.Path.{sym}
 use Rattle.show_header.proofs.Sound.{too_long, not_too_long}
-use borrow.Author.Rules.{rules}
 use Rattle.show_header.proofs.file_question.Goals as goal
 
 pub returns-then-file-gt-BYTES : goal.returns-then-file-gt-BYTES

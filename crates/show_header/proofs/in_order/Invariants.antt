@@ -1,10 +1,6 @@
 use Prim.Native.Nat.{◌-◌, ◌≤◌}
-use mathlib.Core.Path.{◌≡◌, sym, ◌∙◌}
-use native.Mathlib.Nat.{sub-zero}
-use native.Mathlib.Omega.{arith}
-use borrow.Author.Rules.{rules}
+use mathlib.Core.Path.{◌≡◌}
 use Rattle.show_header.specs.Header.{in_order}
-use Rattle.show_header.proofs.Sound.{in_order_more, in_order_broken, in_order_end}
 use Rattle.show_header.proofs.in_order.Given as goal
 
 -- the parts before `k` are in order

@@ -1,6 +1,5 @@
 use mathlib.Core.Path.{sym, ◌∙◌}
 use Rattle.show_header.proofs.Sound.{no_parts, too_many, first_broken, first_kept}
-use borrow.Author.Rules.{rules}
 use Rattle.show_header.proofs.is_sound.Goals as goal
 
 pub returns-then-count-lt1 : goal.returns-then-count-lt1

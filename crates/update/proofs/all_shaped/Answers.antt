@@ -1,9 +1,7 @@
-use Prim.Native.Nat.{◌-◌, ◌≤◌}
 use mathlib.Core.Path.{◌≡◌, refl}
 use native.Mathlib.Omega.{arith}
 use borrow.Author.Rules.{rules}
-use lib.ListN.{length, take, drop}
-use Rattle.update.specs.Update.{all_shaped}
+use lib.ListN.{length}
 use Rattle.update.proofs.Questions.{shape_kept, shape_broken, shapes_kept}
 use Rattle.update.proofs.all_shaped.Goals as goal
 

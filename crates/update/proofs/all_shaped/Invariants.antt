@@ -1,10 +1,7 @@
 use Prim.Native.Nat.{◌-◌, ◌≤◌}
-use mathlib.Core.Path.{◌≡◌, refl}
-use native.Mathlib.Omega.{arith}
-use borrow.Author.Rules.{rules}
-use lib.ListN.{length, take, drop}
+use mathlib.Core.Path.{◌≡◌}
+use lib.ListN.{take, drop}
 use Rattle.update.specs.Update.{all_shaped}
-use Rattle.update.proofs.Questions.{shape_kept, shape_broken, shapes_kept}
 use Rattle.update.proofs.all_shaped.Given as goal
 
 -- the shapes before `i` are as they should be

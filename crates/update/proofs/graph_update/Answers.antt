@@ -1,5 +1,4 @@
 use mathlib.Core.Path.{refl, sym, ◌∙◌}
-use borrow.Author.Rules.{rules}
 use Rattle.rules.proofs.Answers.{answered_read, answered_ended}
 use Rattle.update.proofs.graph_update.Goals as goal
 

@@ -1,11 +1,7 @@
 use Prim.Native.Nat.{ℕ, ◌≤◌, ◌<◌, ◌-◌}
-use mathlib.Core.Path.{◌≡◌, refl, sym, ◌∙◌}
-use native.Mathlib.Omega.{arith}
-use borrow.Author.Rules.{rules}
-use lib.ListN.{length, get_or, length-set, length-map, get_or-map}
-use lib.Seq.{ext_get_or}
+use mathlib.Core.Path.{◌≡◌}
+use lib.ListN.{length, get_or}
 use Rattle.validation.specs.Validation.{parents}
-use Rattle.validation.proofs.Lists.{copy_more}
 use Rattle.validation.proofs.parents_of.Given as goal
 
 -- the places passed hold the parents

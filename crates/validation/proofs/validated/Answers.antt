@@ -1,4 +1,3 @@
-use borrow.Author.Rules.{rules}
 use Rattle.rules.proofs.Steps.{steps}
 use Rattle.validation.specs.Validation.{validate_graph}
 use Rattle.validation.proofs.validated.Goals as goal

@@ -1,4 +1,3 @@
-use borrow.Author.Rules.{rules}
 use Rattle.scene.proofs.SceneAnswer.unread.Goals as goal
 
 pub returns : goal.returns

@@ -1,5 +1,4 @@
 use native.Mathlib.Omega.{arith}
-use borrow.Author.Rules.{rules}
 use Rattle.rules.proofs.Laws.{fresh_sound}
 use Rattle.rules.proofs.Answers.{call_gives}
 use Rattle.update.proofs.undecided.read_update.Goals as goal

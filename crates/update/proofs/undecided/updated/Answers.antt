@@ -1,4 +1,3 @@
-use borrow.Author.Rules.{rules}
 use Rattle.positions.proofs.Then.{then_asked}
 use Rattle.update.specs.Update.{graph_update, update_fields}
 use Rattle.update.proofs.undecided.updated.Goals as goal
