@@ -5,6 +5,7 @@ use mathlib.Core.List.{List, ◌++◌}
 use mathlib.Core.Bool.{Bool, true}
 use base.Logic.{SProp}
 use prog.Memory.{Memory}
+use prog.Routine.{Env}
 use borrow.Fn.World.{World}
 use Rattle.rules.specs.declared.Answer.{Answer}
 use Rattle.rules.specs.Answer.{input_of, Answered}
@@ -25,7 +26,7 @@ use Rattle.printed_runs.specs.Line.{Line, line_text, LinePut}
 use Rattle.printed_runs.proofs.Metadata.{metadata_reads}
 use Rattle.printed_runs.proofs.Show.{parts_read}
 use Rattle.printed_runs.proofs.Line.{lines_put}
-use Rattle.printed_claims.specs.Listing.{line_of, Lines, none, line, PutOut, listed_of, ListingClaim}
+use Rattle.printed_claims.specs.Listing.{HasListingCode, line_of, Lines, none, line, PutOut, listed_of, ListingClaim}
 
 -- a call that records
 module _ (bs ws : List ℕ) (offset : ℕ) {rec : Bool} (on : rec ≡ true) {vs : List ℕ} where
@@ -37,28 +38,28 @@ module _ (bs ws : List ℕ) (offset : ℕ) {rec : Bool} (on : rec ≡ true) {vs 
       printed r vs ≡ listing (metadata_reading (input_of bs rec ws) offset)
   metadata_printed y = rw on (listings.metadata_printed bs ws offset (rw on at y))
 
-module _ (w : World) where
+module _ (w : World) (γ : Env) where
   -- a part that was read
-  ended : {p : Asked} {σ : Memory} {F : SProp w.𝓤} (run : PartRead w p σ F) {answer : Answer} → run.answer ≡ Ended answer →
+  ended : {p : Asked} {σ : Memory} {F : SProp w.𝓤} (run : PartRead w γ p σ F) {answer : Answer} → run.answer ≡ Ended answer →
       PartAnswered (listed_of p) p.words.held (Ended answer) run.words
   ended run e = rw e at run.answered
 
-  line_of_lem : {x : Line} {bytes : Cells ℕ} {σ : Memory} {F : SProp w.𝓤} (run : LinePut w x bytes σ F) → line_of w run ≡ line_text x
+  line_of_lem : {x : Line} {bytes : Cells ℕ} {σ : Memory} {F : SProp w.𝓤} (run : LinePut w γ x bytes σ F) → line_of w γ run ≡ line_text x
   line_of_lem run = line_front run.lined
 
-  lines_are : {words : Cells ℕ} {n i : ℕ} {text : List ℕ} → Lines w words n i text → text ≡ lines words.held n i
+  lines_are : {words : Cells ℕ} {n i : ℕ} {text : List ℕ} → Lines w γ words n i text → text ≡ lines words.held n i
   unfolding lines
   lines_are none = refl
   lines_are (line run rest) = ap₂ ◌++◌ (line_of_lem run) (lines_are rest)
 
-  put_out : {answer : Answer} {words : Cells ℕ} {text : List ℕ} → PutOut w answer words text → text ≡ printed answer words.held
+  put_out : {answer : Answer} {words : Cells ℕ} {text : List ℕ} → PutOut w γ answer words text → text ≡ printed answer words.held
   put_out out = out.text_is ∙ ap₂ ◌++◌ (lines_are out.of_fields) (line_of_lem out.outcome)
 
-  pub listing_claim : ListingClaim w
-  listing_claim = record {
-    every_metadata = metadata_reads w;
-    every_part = parts_read w;
-    every_line = lines_put w;
+  pub listing_claim : HasListingCode γ → ListingClaim w γ
+  listing_claim has = record {
+    every_metadata = metadata_reads w γ has.metadata;
+    every_part = parts_read w γ has.part;
+    every_line = λ x. lines_put w γ x (has.lines x);
     scene_listed = λ f p σ F run on text out. put_out out ∙ scene_printed _ _ p.offset on run.answered;
     scene_explained = λ f p σ F run. rw run.answered.answered.answer (explained.scene_explained (input_sent p) p.offset);
     metadata_listed = λ p σ F run on text out. put_out out ∙ metadata_printed _ _ p.offset on run.answered;

@@ -6,6 +6,8 @@ use mathlib.Core.Bool.{true, false}
 use native.Mathlib.Omega.{arith}
 use base.Logic.{SProp}
 use prog.Memory.{Memory}
+use prog.Routine.{Env}
+use prog.Wired.{Wired}
 use borrow.Fn.World.{World}
 use Rattle.rules.specs.declared.Answer.{Answer}
 use Rattle.rules.specs.Reading.{is_read}
@@ -20,7 +22,7 @@ use Rattle.show_header.specs.Header.{part_count, file_question}
 use Rattle.show_parts.specs.Parts.{packet, packets}
 use Rattle.show_lines.specs.Lines.{part_line, all_positions}
 use Rattle.show.specs.Show.{part_lines, updates_text, rest_text, parts_text, show_text}
-use Rattle.show.proofs.show.Symbol.{routine as show-routine}
+use Rattle.show.proofs.show.Symbol.{name as show_name, code as show_code}
 use Rattle.show.proofs.Room.{show_enough}
 use Rattle.owner.specs.Cells.{slice, pointer}
 use Rattle.owner.proofs.Cells.{one_end}
@@ -53,27 +55,27 @@ module _ (file : List ℕ) where
       scene.told.answer ≡ (scene_step (packet file 0) []).told.answer
   answer_is told fed = ap (λ (g : Given). g.answer) told ∙ ap (λ (p : Packet). (scene_step p []).told.answer) fed
 
-text_of_lem : (w : World) (p : Showing) (σ : Memory) (F : SProp w.𝓤) (run : Shown w p σ F) → text_of w run ≡ show_text p.file.held
-text_of_lem w p σ F run =
+text_of_lem : (w : World) (γ : Env) (p : Showing) (σ : Memory) (F : SProp w.𝓤) (run : Shown w γ p σ F) → text_of w γ run ≡ show_text p.file.held
+text_of_lem w γ p σ F run =
     let enough = show_enough p.file.held in
     put_front run.answered.text (omega (arith, run.text_many, put_long run.answered.text))
 
-pub show_claim : (w : World) → ShowClaim w
-show_claim w = record {
-  every_show = shows w;
+pub show_claim : (w : World) (γ : Env) → Wired γ show_code → ShowClaim w γ
+show_claim w γ has = record {
+  every_show = shows w γ has;
   one_show = λ p σ F run v ρ ends.
-      one_end show-routine (slice p.file ∷ pointer p.text ∷ []) σ v (text-answer.lowered run.answer) ρ run.memory ends run.ran;
-  defined = text_of_lem w;
+      one_end (γ show_name) (slice p.file ∷ pointer p.text ∷ []) σ v (text-answer.lowered run.answer) ρ run.memory ends run.ran;
+  defined = text_of_lem w γ;
   refused = λ p σ F run met f q π G scene fed unread.
-      text_of_lem w p σ F run
+      text_of_lem w γ p σ F run
       ∙ text_refused p.file.held met (answer_is p.file.held (scene_by_step _ _ _ _ scene.answered).tells fed) unread;
   told = λ p σ F run met scene s t π ρ cs a r fed others.
-      let claim = list_claim w scene s t π cs a (through_ran w r) in
+      let claim = list_claim w γ scene s t π cs a (through_ran w γ r) in
       let first = claim.first_are ∙ ap book_first fed in
-      text_of_lem w p σ F run
+      text_of_lem w γ p σ F run
       ∙ text_read p.file.held met (answer_is p.file.held claim.scene_is fed)
       (ap (λ (c : Call). is_read c.told.answer.outcome) a.call_is ∙ a.read)
       (claim.booked.told_are ∙ ap₂ book_answers others first)
       (claim.booked.state_is ∙ ap₂ book_shapes others first);
-  ranks = λ scene s t π ρ cs a r. chain_ranks (parents t) (list_claim w scene s t π cs a (through_ran w r)).ranked;
+  ranks = λ scene s t π ρ cs a r. chain_ranks (parents t) (list_claim w γ scene s t π cs a (through_ran w γ r)).ranked;
 }

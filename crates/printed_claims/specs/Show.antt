@@ -4,6 +4,7 @@ use Rattle.std.specs.Prelude.{ℕ, ◌-◌, ◌≡◌, List, [], ◌∷◌, ◌+
 use mir.Val.{Val}
 use base.Logic.{SProp}
 use prog.Memory.{Memory}
+use prog.Routine.{Env}
 use borrow.Fn.World.{World}
 use Rattle.rules.specs.Reading.{is_read}
 use Rattle.position.specs.declared.PositionSyntax.{PositionSyntax}
@@ -15,7 +16,7 @@ use Rattle.show_header.specs.Header.{part_count, file_question}
 use Rattle.show_parts.specs.Parts.{packet, packets}
 use Rattle.show_lines.specs.Lines.{part_line, all_positions}
 use Rattle.show.specs.Show.{part_lines, show_text}
-use Rattle.show.proofs.show.Symbol.{routine as show-routine}
+use Rattle.show.proofs.show.Symbol.{name as show_name}
 use Rattle.owner.specs.Cells.{slice, pointer}
 use Rattle.owner.specs.Machine.{Ran}
 use Rattle.owner.specs.Holds as holds
@@ -24,7 +25,7 @@ use Rattle.runs.specs.Scene.{SceneRead}
 use Rattle.printed_runs.specs.Show.{Showing, ShowingFits, ShowInCells, Shown}
 use Rattle.claims.specs.Calls.{Call, packet_sent, Accepted, Through}
 
-module _ (w : World) where
+module _ (w : World) (γ : Env) where
   abbrev Beside : Type 2
   Beside = SProp w.𝓤
 
@@ -33,27 +34,27 @@ module _ (w : World) where
 
   infix 26 ◌⊨◌
   -- the text that a run left at the beginning of the lent bytes
-  abbrev pub text_of : {p : Showing} {σ : Memory} {F : Beside} → Shown w p σ F → List ℕ
+  abbrev pub text_of : {p : Showing} {σ : Memory} {F : Beside} → Shown w γ p σ F → List ℕ
   text_of run = take run.answer.length run.text
 
   pub record ShowClaim : Type 2 where
     -- Whoever has a file and the bytes for its text in the cells of a memory, and anything else beside them, may call `show`. It
     -- returns, its memory holds the text that is defined, and the machine has no other end for it.
-    pub every_show : (p : Showing) → ShowingFits p → (σ : Memory) (F : Beside) → σ ⊨ ShowInCells w p p.text.held F → ∥ Shown w p σ F ∥₁
-    pub one_show : (p : Showing) (σ : Memory) (F : Beside) (run : Shown w p σ F) (v : Val) (ρ : Memory) →
-        Ran show-routine (slice p.file ∷ pointer p.text ∷ []) σ v ρ →
+    pub every_show : (p : Showing) → ShowingFits p → (σ : Memory) (F : Beside) → σ ⊨ ShowInCells w p p.text.held F → ∥ Shown w γ p σ F ∥₁
+    pub one_show : (p : Showing) (σ : Memory) (F : Beside) (run : Shown w γ p σ F) (v : Val) (ρ : Memory) →
+        Ran (γ show_name) (slice p.file ∷ pointer p.text ∷ []) σ v ρ →
         ◌≡◌ {A = Val × Memory} (v, ρ) (text-answer.lowered run.answer, run.memory)
-    pub defined : (p : Showing) (σ : Memory) (F : Beside) (run : Shown w p σ F) → text_of run ≡ show_text p.file.held
+    pub defined : (p : Showing) (σ : Memory) (F : Beside) (run : Shown w γ p σ F) → text_of run ≡ show_text p.file.held
     -- A file that is not refused. If a reading of part 0 as a scene did not accept it, its answer is all that is told.
-    pub refused : (p : Showing) (σ : Memory) (F : Beside) (run : Shown w p σ F) → file_question p.file.held ≡ 0 →
-        (x : Variant) (q : Sent) (π : Memory) (G : Beside) (scene : SceneRead w x q π G) → packet_sent q ≡ packet p.file.held 0 →
+    pub refused : (p : Showing) (σ : Memory) (F : Beside) (run : Shown w γ p σ F) → file_question p.file.held ≡ 0 →
+        (x : Variant) (q : Sent) (π : Memory) (G : Beside) (scene : SceneRead w γ x q π G) → packet_sent q ≡ packet p.file.held 0 →
         is_read scene.answer.answer.outcome ≡ false → text_of run ≡ part_line 0 scene.answer.answer
     -- If it did, and updates were called on the other parts, one after another through one memory, each on the shapes that the call
     -- before left, then the answers that are told are theirs, and the positions those of the shapes that they left ..
-    pub told : (p : Showing) (σ : Memory) (F : Beside) (run : Shown w p σ F) → file_question p.file.held ≡ 0 →
-        (scene : Call) (s t : List PositionSyntax) (π ρ : Memory) (cs : List Call) → Accepted w scene s π → Through w π s cs ρ t →
+    pub told : (p : Showing) (σ : Memory) (F : Beside) (run : Shown w γ p σ F) → file_question p.file.held ≡ 0 →
+        (scene : Call) (s t : List PositionSyntax) (π ρ : Memory) (cs : List Call) → Accepted w γ scene s π → Through w γ π s cs ρ t →
         scene.fed ≡ packet p.file.held 0 → all_fed cs ≡ packets p.file.held (part_count p.file.held - 1) 1 →
         text_of run ≡ part_line 0 scene.told.answer ++ (part_lines 1 (all_told cs) ++ all_positions t)
     -- .. which have the ranks that are told.
-    pub ranks : (scene : Call) (s t : List PositionSyntax) (π ρ : Memory) (cs : List Call) → Accepted w scene s π → Through w π s cs ρ t →
+    pub ranks : (scene : Call) (s t : List PositionSyntax) (π ρ : Memory) (cs : List Call) → Accepted w γ scene s π → Through w γ π s cs ρ t →
         Ranks (parents t) (rank_of (parents t))

@@ -3,10 +3,12 @@ use mathlib.Core.Path.{◌≡◌, refl}
 use mathlib.Core.List.{List, [], ◌∷◌}
 use mathlib.Core.Logic.{∥∥₁_map}
 use mathlib.Core.Option.{none}
-use mir.Syntax.{w64}
+use mir.Syntax.{w8, w64}
 use mir.Val.{Val}
 use base.Logic.{SProp}
 use prog.Memory.{Memory}
+use prog.Routine.{Env}
+use prog.Wired.{Wired}
 use denote.Builtin as builtin
 use denote.Plain.{uint_vals}
 use denote.Laws.{Is, Typed}
@@ -16,18 +18,20 @@ use Rattle.text.specs.contracts.TextAnswer as text-row
 use Rattle.text.proofs.TextAnswer.TheLaws as text-laws
 use Rattle.show.specs.Show.{ShowAnswered}
 use Rattle.show.specs.contracts.show as show
-use Rattle.show.proofs.show.Symbol.{routine as show-routine}
+use Rattle.show.proofs.show.Symbol.{name as show_name, code as show_code}
 use Rattle.show.proofs.show.Met.{met as show-met}
 use Rattle.part.specs.declared.PartAnswer.{PartAnswer}
 use Rattle.part.specs.Part.{part_from, part_listed, PartAnswered}
 use Rattle.part.specs.contracts.PartAnswer as part-row
 use Rattle.part.proofs.PartAnswer.TheLaws as part-laws
 use Rattle.part.specs.contracts.read_part as read-part
-use Rattle.part.proofs.read_part.Symbol.{routine as part-routine}
+use Rattle.part.proofs.read_part.Symbol.{name as part_name, code as part_code}
 use Rattle.part.proofs.read_part.Met.{met as part-met}
 use Rattle.owner.specs.Holds.{◌⊨◌}
 use Rattle.owner.proofs.Loans.{Kind, shared, mutable, reference, value}
 use Rattle.owner.proofs.Owner.{T, Says}
+use Rattle.owner.proofs.Returns.{reading}
+use Rattle.owner.proofs.Placed.{number_lent}
 use Rattle.owner.proofs.Around.{runs}
 use Rattle.printed_runs.specs.Show.{Showing, ShowingFits, ShowInCells, Shown, Asked, AskedFits, AskedInCells, PartRead}
 use Rattle.runs.proofs.Sent.{W, number_made, bytes_placed, words_placed}
@@ -59,10 +63,10 @@ part_says x r l =
     PartAnswered (part_listed file part (part_from file part offset words)) words r l.1.1.1.0
 
 module _ (w : World) where
-  pub shows : (p : Showing) → ShowingFits p → (σ : Memory) (F : SProp w.𝓤) → ◌⊨◌ w σ (ShowInCells w p p.text.held F) → ∥ Shown w p σ F ∥₁
-  shows p ok σ F holds =
-      ∥∥₁_map (runs 2 show_kinds text-row.the_row text-laws.lowered w (bytes_placed w, (bytes_placed w, tt)) show-routine show_says
-      (text-laws.lowers).val_is none (show-met w.𝓛 w.𝓜 w.𝓡) (tt, (tt, tt)) ((p.share, p.file), (p.text, tt)) tt
+  pub shows : (γ : Env) → Wired γ show_code → (p : Showing) → ShowingFits p → (σ : Memory) (F : SProp w.𝓤) → ◌⊨◌ w σ (ShowInCells w p p.text.held F) → ∥ Shown w γ p σ F ∥₁
+  shows γ has p ok σ F holds =
+      ∥∥₁_map (runs 2 show_kinds text-row.the_row text-laws.lowered w (bytes_placed w, (bytes_placed w, tt)) (γ show_name) show_says
+      (text-laws.lowers).val_is none (show-met w.𝓤 w.𝓛 w.𝓜 (reading w γ) has) (number_lent w.𝓛 w8, (tt, tt)) ((p.share, p.file), (p.text, tt)) tt
       (ok.file, (ok.text, tt)) σ F holds) (λ t. record {
         answer = t.result;
         text = t.left.1.0;
@@ -74,12 +78,12 @@ module _ (w : World) where
       })
 
   part_typed : (a : PartAnswer) (vs : List Val) → Is part-row.the_row a vs → Typed (part-row.the_row).mir vs
-  part_typed = (lawful part-row.the_type part-laws.the_laws w.𝓛 (W w) tt).typed
+  part_typed = (lawful part-row.the_type part-laws.the_laws w.𝓛 tt).typed
 
-  pub parts_read : (p : Asked) → AskedFits p → (σ : Memory) (F : SProp w.𝓤) → ◌⊨◌ w σ (AskedInCells w p p.words.held F) → ∥ PartRead w p σ F ∥₁
-  parts_read p ok σ F holds =
-      ∥∥₁_map (runs 2 part_kinds part-row.the_row part-laws.lowered w (bytes_placed w, (tt, (tt, (words_placed w, tt)))) part-routine part_says
-      (part-laws.lowers).val_is none (part-met w.𝓛 w.𝓜 w.𝓡) (tt, (number_made w, (number_made w, (tt, tt))))
+  pub parts_read : (γ : Env) → Wired γ part_code → (p : Asked) → AskedFits p → (σ : Memory) (F : SProp w.𝓤) → ◌⊨◌ w σ (AskedInCells w p p.words.held F) → ∥ PartRead w γ p σ F ∥₁
+  parts_read γ has p ok σ F holds =
+      ∥∥₁_map (runs 2 part_kinds part-row.the_row part-laws.lowered w (bytes_placed w, (tt, (tt, (words_placed w, tt)))) (γ part_name) part_says
+      (part-laws.lowers).val_is none (part-met w.𝓤 w.𝓛 w.𝓜 (reading w γ) has) (number_lent w.𝓛 w8, (number_made w, (number_made w, (tt, tt))))
       ((p.share, p.file), (p.part, (p.offset, (p.words, tt)))) tt
       (ok.file, ((refl, ok.part), ((refl, ok.offset), (ok.words, tt)))) σ F holds)
       (λ t. record {

@@ -5,15 +5,16 @@ use mir.Val.{Val, vint, WT}
 use base.Logic.{SProp, sep}
 use Rattle.std.specs.Borrow.{Share}
 use prog.Memory.{Memory}
-use prog.Routine.{Routine}
+use prog.Routine.{Env, Routine}
+use prog.Wired.{Code}
 use borrow.Fn.World.{World}
 use Rattle.rules.specs.declared.Answer.{Answer}
 use Rattle.rules.proofs.Answer.TheLaws as answer-laws
 use Rattle.text.specs.Text.{Lined}
 use Rattle.field_lines.specs.FieldLine.{line_at}
 use Rattle.outcome_lines.specs.OutcomeLine.{outcome_line}
-use Rattle.field_lines.proofs.field_line.Symbol.{routine as field-routine}
-use Rattle.outcome_lines.proofs.outcome_line.Symbol.{routine as outcome-routine}
+use Rattle.field_lines.proofs.field_line.Symbol.{name as field_name, code as field_code}
+use Rattle.outcome_lines.proofs.outcome_line.Symbol.{name as outcome_name, code as outcome_code}
 use Rattle.owner.specs.Cells.{Cells, refilled, Slice, slice, pointer}
 use Rattle.owner.specs.Machine.{Ran}
 use Rattle.owner.specs.Holds.{◌⊨◌, Numbers}
@@ -25,9 +26,14 @@ pub data Line : Type 0 where
   of_field : Share → Cells ℕ → ℕ → Line
   of_outcome : Answer → Line
 
-abbrev pub line_routine : Line → Routine
-line_routine (of_field q ws i) = field-routine
-line_routine (of_outcome a) = outcome-routine
+-- as they are in the environment γ; and the code that γ has of each, with that of what it calls, where it is `Wired` for it
+abbrev pub line_routine : Env → Line → Routine
+line_routine γ (of_field q ws i) = γ field_name
+line_routine γ (of_outcome a) = γ outcome_name
+
+abbrev pub line_code : Line → Code
+line_code (of_field q ws i) = field_code
+line_code (of_outcome a) = outcome_code
 
 abbrev pub LineFits : Line → Type 0
 LineFits (of_field q ws i) = Slice 8 ws × (i < 2 ^ 64)
@@ -48,11 +54,11 @@ LineInCells w (of_outcome a) line F = sep w.𝓤 (Text w line) F
 
 -- From the memory σ, beside F: it ends with the number of bytes put, in a memory that holds the lent bytes as they were left,
 -- no more and no fewer, and all else as it was.
-pub record LinePut (w : World) (x : Line) (line : Cells ℕ) (σ : Memory) (F : SProp w.𝓤) : Type 1 where
+pub record LinePut (w : World) (γ : Env) (x : Line) (line : Cells ℕ) (σ : Memory) (F : SProp w.𝓤) : Type 1 where
   pub put : ℕ
   pub bytes : List ℕ
   pub memory : Memory
-  pub ran : Ran (line_routine x) (line_values x ++ pointer line ∷ []) σ (vint w64 put) memory
+  pub ran : Ran (line_routine γ x) (line_values x ++ pointer line ∷ []) σ (vint w64 put) memory
   pub bytes_many : length bytes ≡ 256
   pub holds : ◌⊨◌ w memory (LineInCells w x (refilled line bytes) F)
   pub lined : Lined line.held (line_text x) put bytes

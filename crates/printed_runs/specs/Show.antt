@@ -1,19 +1,21 @@
--- Runs of the functions over a show file: `show::show`, which puts its text into lent bytes, and `part::read_part`.
+-- Runs of the functions over a show file: `show::show`, which puts its text into lent bytes, and `part::read_part`, as they are
+-- in the environment γ.
 use Rattle.std.specs.Prelude.{ℕ, ◌<◌, ◌^◌, ◌≡◌, List, [], ◌∷◌, length}
 use Rattle.std.specs.Int.{w64}
 use mir.Val.{Val, vint, WT}
 use base.Logic.{SProp, sep}
 use Rattle.std.specs.Borrow.{Share}
 use prog.Memory.{Memory}
+use prog.Routine.{Env}
 use borrow.Fn.World.{World}
 use Rattle.text.specs.declared.TextAnswer.{TextAnswer}
 use Rattle.text.proofs.TextAnswer.TheLaws as text-answer
 use Rattle.show.specs.Show.{ShowAnswered}
-use Rattle.show.proofs.show.Symbol.{routine as show-routine}
+use Rattle.show.proofs.show.Symbol.{name as show_name}
 use Rattle.part.specs.declared.PartAnswer.{PartAnswer}
 use Rattle.part.specs.Part.{part_from, part_listed, PartAnswered}
 use Rattle.part.proofs.PartAnswer.TheLaws as part-answer
-use Rattle.part.proofs.read_part.Symbol.{routine as part-routine}
+use Rattle.part.proofs.read_part.Symbol.{name as part_name}
 use Rattle.owner.specs.Cells.{Cells, refilled, Slice, slice, pointer}
 use Rattle.owner.specs.Machine.{Ran}
 use Rattle.owner.specs.Holds.{◌⊨◌}
@@ -35,11 +37,11 @@ ShowInCells w p text F = sep w.𝓤 (Bytes w p.share p.file) (sep w.𝓤 (Text w
 
 -- From the memory σ, beside F: it ends with the machine's value of an answer in a memory that holds the file as it was, the
 -- lent bytes as they were left, no more and no fewer, and F as it was.
-pub record Shown (w : World) (p : Showing) (σ : Memory) (F : SProp w.𝓤) : Type 1 where
+pub record Shown (w : World) (γ : Env) (p : Showing) (σ : Memory) (F : SProp w.𝓤) : Type 1 where
   pub answer : TextAnswer
   pub text : List ℕ
   pub memory : Memory
-  pub ran : Ran show-routine (slice p.file ∷ pointer p.text ∷ []) σ (text-answer.lowered answer) memory
+  pub ran : Ran (γ show_name) (slice p.file ∷ pointer p.text ∷ []) σ (text-answer.lowered answer) memory
   pub text_many : length text ≡ 32768
   pub holds : ◌⊨◌ w memory (ShowInCells w p text F)
   pub answered : ShowAnswered p.file.held p.text.held answer text
@@ -64,11 +66,11 @@ asked_values p = slice p.file ∷ vint w64 p.part ∷ vint w64 p.offset ∷ slic
 abbrev pub AskedInCells : (w : World) → Asked → List ℕ → SProp w.𝓤 → SProp w.𝓤
 AskedInCells w p ws F = sep w.𝓤 (Bytes w p.share p.file) (sep w.𝓤 (Words w (refilled p.words ws)) F)
 
-pub record PartRead (w : World) (p : Asked) (σ : Memory) (F : SProp w.𝓤) : Type 1 where
+pub record PartRead (w : World) (γ : Env) (p : Asked) (σ : Memory) (F : SProp w.𝓤) : Type 1 where
   pub answer : PartAnswer
   pub words : List ℕ
   pub memory : Memory
-  pub ran : Ran part-routine (asked_values p) σ (part-answer.lowered answer) memory
+  pub ran : Ran (γ part_name) (asked_values p) σ (part-answer.lowered answer) memory
   pub answer_fits : WT (part-answer.lowered answer)
   pub words_many : length words ≡ length p.words.held
   pub holds : ◌⊨◌ w memory (AskedInCells w p words F)
