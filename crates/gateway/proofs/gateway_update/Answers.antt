@@ -1,4 +1,3 @@
-use borrow.Author.Rules.{rules}
 use Rattle.gateway.proofs.gateway_update.Goals as goal
 
 pub returns : goal.returns

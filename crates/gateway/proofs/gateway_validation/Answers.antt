@@ -1,5 +1,4 @@
 use mathlib.Core.Path.{◌∙◌, ap}
-use borrow.Author.Rules.{rules}
 use Rattle.exported.specs.Exported.{exported}
 use Rattle.gateway.proofs.gateway_validation.Goals as goal
 
