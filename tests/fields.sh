@@ -156,7 +156,8 @@ replay() {
   local n arguments
   for ((n = $1; n <= total; n += 2)); do
     read -r -a arguments <"$cases/$n.args"
-    crates/scene_fields/out/scene_fields "${arguments[@]}" <"$cases/$n.in" >"$work/ran/$n.out" 2>"$work/ran/$n.report"
+    crates/scene_fields/out/scene_fields "${arguments[@]}" <"$cases/$n.in" >"$work/ran/$n.out" 2>"$work/ran/$n.report" ||
+      [ -s "$work/ran/$n.report" ]
   done
 }
 replay 1 &
