@@ -1,7 +1,7 @@
 -- Any list of packets can be sent after any accepted scene. The owner has the shapes in cells, puts each packet and its words into
 -- new ones, and stores the shapes that a call gives back by value where the others are.
 use Prim.Native.Nat.{ℕ, zero, suc, ◌-◌, ◌≤◌}
-use mathlib.Core.Path.{◌≡◌, refl, sym, ap, ap₂}
+use mathlib.Core.Path.{◌≡◌, refl, sym, ap₂}
 use mathlib.Core.List.{List, [], ◌∷◌, ◌++◌, map}
 use mathlib.Core.Logic.{∥∥₁_prop, ∥∥₁_elim, ∥∥₁_map}
 use native.Mathlib.Omega.{arith}
@@ -30,7 +30,7 @@ use Rattle.owner.specs.Holds.{◌⊨◌}
 use Rattle.owner.proofs.Cells.{writes_on, stores_write, all_numbers, lay, refills}
 use Rattle.runs.specs.Sent.{Variant, Sent, SentFits, AllFit, Bytes, Words, Shapes, SentInCells}
 use Rattle.runs.specs.Scene.{SceneRead}
-use Rattle.runs.specs.Update.{Form, by_value, lent, Counted, all_of}
+use Rattle.runs.specs.Update.{Form, by_value, lent, Counted}
 use Rattle.runs.proofs.Sent.{all_shapes}
 use Rattle.runs.proofs.Scene.{scene_reads}
 use Rattle.runs.proofs.Update.{updates}

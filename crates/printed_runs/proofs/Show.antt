@@ -34,7 +34,7 @@ use Rattle.owner.proofs.Returns.{reading}
 use Rattle.owner.proofs.Placed.{number_lent}
 use Rattle.owner.proofs.Around.{runs}
 use Rattle.printed_runs.specs.Show.{Showing, ShowingFits, ShowInCells, Shown, Asked, AskedFits, AskedInCells, PartRead}
-use Rattle.runs.proofs.Sent.{W, number_made, bytes_placed, words_placed}
+use Rattle.runs.proofs.Sent.{number_made, bytes_placed, words_placed}
 
 -- ---- file and text
 abbrev show_kinds : List (Kind 2)
