@@ -10,6 +10,11 @@ cd "$(dirname "$0")/.."
 seed=${1:-2}
 scale=${2:-4}
 source tests/lib/built.sh
+
+# The Rust that answers is that of docs/src.
+for file in model record config/{bits,drc,mod,model,parser,passive,passive_compression,passive_metadata,passive_renderer}; do
+  cmp "oracle/apac/src/$file.rs" "docs/src/crates/apac-core/src/$file.rs"
+done
 build_oracle
 build_library
 manifest=oracle/Cargo.toml

@@ -1,6 +1,6 @@
 //! APAC-Core's configuration readers, unchanged, and a driver that runs them.
 //!
-//! `record.rs`, `model.rs` and nine files of `config/` are symbolic links into `docs/src`. What they
+//! `record.rs`, `model.rs` and nine files of `config/` are copies of files of `docs/src`. What they
 //! name and `docs/src` lacks stands beside them as thin stand-ins. The driver has to be a child of
 //! `config` to call its methods; it hands out its answers by the types of `run`.
 #![no_std]
