@@ -22,6 +22,12 @@ impl Number {
     }
 }
 
+// The last digit in ASCII.
+const LAST_DIGIT: u8 = b'9';
+
+// The most digits of a number.
+const MOST_DIGITS: usize = 18;
+
 // The number that digits are, if nothing else is among them.
 fn digits_number(text: &[u8]) -> Number
     requires { length text.now ≤ 18 }
@@ -34,7 +40,7 @@ fn digits_number(text: &[u8]) -> Number
         if c < b'0' {
             return Number::none();
         }
-        if b'9' < c {
+        if LAST_DIGIT < c {
             return Number::none();
         }
         value = 10 * value + (c - b'0') as u64;
@@ -50,7 +56,7 @@ pub fn number_in(text: &[u8]) -> Number
     if text.len() < 1 {
         return Number::none();
     }
-    if 18 < text.len() {
+    if MOST_DIGITS < text.len() {
         return Number::none();
     }
     digits_number(text)

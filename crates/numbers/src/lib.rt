@@ -47,6 +47,9 @@ const MEANINGS: [u8; 2124] = *b"\
     LZW initial width above 15, or greatest width above 16|    \
 ";
 
+// The end of a row's text.
+const BAR: u8 = b'|';
+
 // How many bytes the text of a row has.
 fn text_length(row: &[u8]) -> usize
     ensures upper_bound { result ≤ length row.now }
@@ -54,7 +57,7 @@ fn text_length(row: &[u8]) -> usize
 {
     let mut k = 0;
     while k < row.len() {
-        if row[k] == b'|' {
+        if row[k] == BAR {
             return k;
         }
         k += 1;

@@ -10,9 +10,9 @@ pub returns-then-c-lt48 : goal.returns-then-c-lt48
 returns-then-c-lt48 c =
     c.none.ensures ∙ below _ _ _ c.loop-k-test.true (omega (arith, c.if-c-lt48.true)) c.loop-k.invariant
 
-pub returns-then-c-gt57 : goal.returns-then-c-gt57
-returns-then-c-gt57 c =
-    c.none-then-c-gt57.ensures ∙ above _ _ _ c.loop-k-test.true (omega (arith, c.if-c-gt57.true)) c.loop-k.invariant
+pub returns-then-c-gt-LAST_DIGIT : goal.returns-then-c-gt-LAST_DIGIT
+returns-then-c-gt-LAST_DIGIT c =
+    c.none-then-c-gt-LAST_DIGIT.ensures ∙ above _ _ _ c.loop-k-test.true (omega (arith, c.if-c-gt-LAST_DIGIT.true)) c.loop-k.invariant
 
 pub overflow_mul-value : goal.overflow_mul-value
 overflow_mul-value c =
@@ -26,7 +26,7 @@ overflow_add-value c =
 
 pub loop-k-preserved : goal.loop-k-preserved
 loop-k-preserved c =
-    digit_more _ _ _ c.loop-k-test.true (omega (arith, c.if-c-lt48.false)) (omega (arith, c.if-c-gt57.false)) c.loop-k.invariant
+    digit_more _ _ _ c.loop-k-test.true (omega (arith, c.if-c-lt48.false)) (omega (arith, c.if-c-gt-LAST_DIGIT.false)) c.loop-k.invariant
 
 pub returns : goal.returns
 returns c = all_digits_lem _ _ _ c.loop-k-test.false c.loop-k.invariant

@@ -6,16 +6,16 @@ use Rattle.numbers.proofs.text_length.Goals as goal
 pub loop-k-init : goal.loop-k-init
 loop-k-init c = (search rules, refl)
 
-pub returns-then-row-k-eq124 : goal.returns-then-row-k-eq124
-returns-then-row-k-eq124 c =
+pub returns-then-row-k-eq-BAR : goal.returns-then-row-k-eq-BAR
+returns-then-row-k-eq-BAR c =
     record {
       upper_bound = c.loop-k.invariant.0;
-      row_value = at_bar _ _ c.loop-k-test.true c.loop-k.invariant.1 c.if-row-k-eq124.true;
+      row_value = at_bar _ _ c.loop-k-test.true c.loop-k.invariant.1 c.if-row-k-eq-BAR.true;
     }
 
 pub loop-k-preserved : goal.loop-k-preserved
 loop-k-preserved c =
-    (search rules, at_letter _ _ c.loop-k-test.true c.loop-k.invariant.1 c.if-row-k-eq124.false)
+    (search rules, at_letter _ _ c.loop-k-test.true c.loop-k.invariant.1 c.if-row-k-eq-BAR.false)
 
 pub returns : goal.returns
 returns c =
