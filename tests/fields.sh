@@ -150,14 +150,25 @@ read -r -a arguments <"$cases/$n.args"
 into_pipe "${arguments[@]}" <"$cases/$n.in" | head -n 1 | cmp - <(head -n 1 "$cases/$n.out")
 failed "$(cat "$work/status")" 1 "scene-fields: standard output: Broken pipe"
 
-# Every case, half of them beside the other: the program itself, without its launcher, which the runs above have used.
+# Every case, half of them beside the other: the program itself, without its launcher, which the runs above have used. Its
+# status is 2 if it told how it is called, 1 with any other report, and 0 with none.
 mkdir "$work/ran"
 replay() {
-  local n arguments
+  local n arguments report status expected
   for ((n = $1; n <= total; n += 2)); do
     read -r -a arguments <"$cases/$n.args"
-    crates/scene_fields/out/scene_fields "${arguments[@]}" <"$cases/$n.in" >"$work/ran/$n.out" 2>"$work/ran/$n.report" ||
-      [ -s "$work/ran/$n.report" ]
+    read -r -d '' report <"$cases/$n.report" || true
+    case $report in
+      "") expected=0 ;;
+      usage:*) expected=2 ;;
+      *) expected=1 ;;
+    esac
+    status=0
+    crates/scene_fields/out/scene_fields "${arguments[@]}" <"$cases/$n.in" >"$work/ran/$n.out" 2>"$work/ran/$n.report" || status=$?
+    if [ "$status" != "$expected" ]; then
+      echo "case $n, scene-fields ${arguments[*]}: status $status where $expected was expected"
+      exit 1
+    fi
   done
 }
 replay 1 &

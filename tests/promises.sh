@@ -34,6 +34,11 @@ while read -r path; do
     exit 1
   fi
 done <"$work/functions"
+
+# What C and Rust call has the clauses of the function of `gateway` that it calls.
+sed -n 's/^pub extern "C" fn \(\w*\)(.*/\1/p' crates/gateway_c/src/lib.rt | while read -r name; do
+  diff <(contract gateway "$name") <(contract gateway_c "$name" | sed 's/^pub extern "C" fn/pub fn/')
+done
 exported=$(grep -c '^#\[unsafe(no_mangle)\]$' crates/gateway_c/src/lib.rt)
 [ "$(grep -c '^gateway_c::' "$work/functions")" = "$exported" ]
 [ "$(wc -l <"$work/functions")" -gt "$((exported + 10))" ]
