@@ -1,5 +1,5 @@
--- What demand 3 takes for granted can be met, in any environment that has the functions' code: document 01's scene is accepted, and its three packets, of which the first is refused,
--- are sent after it, one by value, one lent and one exported.
+-- What demand 3 takes for granted can be met, in any environment that has the functions' code: document 01's scene is accepted,
+-- and its three packets, of which the first is refused, are sent after it, one by value, one lent and one exported.
 use Prim.Native.Nat.{ℕ, ◌≤◌}
 use mathlib.Core.Path.{◌≡◌, refl, ◌∙◌, ap}
 use mathlib.Core.List.{List, [], ◌∷◌}
