@@ -2,3 +2,4 @@ pub mod Calls
 pub mod Any
 pub mod Demand
 pub mod Worked
+pub mod Linked

@@ -1,2 +1,3 @@
 pub mod Show
 pub mod Listing
+pub mod Linked
