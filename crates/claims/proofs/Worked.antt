@@ -34,7 +34,7 @@ wanted f bytes = record { form = f; bytes = bytes; offset = 0; recording = false
 abbrev scene : Wanted Variant
 scene = wanted plain part0
 
-abbrev packets : List (Wanted Form)
+abbrev pub packets : List (Wanted Form)
 packets = wanted by_value part1 ∷ wanted (lent plain) part2 ∷ wanted (lent exported) part3 ∷ []
 
 possible : {F : Type 0} (f : F) (bytes : List ℕ) → AllBelow w8 bytes → length bytes ≤ 6 → Possible (wanted f bytes)

@@ -1,1 +1,2 @@
 mod Narrow
+pub mod Linked

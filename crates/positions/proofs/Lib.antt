@@ -1,2 +1,3 @@
 pub mod Loops
 pub mod Then
+pub mod Linked

@@ -1,3 +1,4 @@
 pub mod Pigeons
 pub mod Chains
 pub mod Ranks
+pub mod Linked

@@ -9,3 +9,4 @@ pub mod Each
 pub mod Fold
 pub mod Choice
 pub mod Answers
+pub mod Linked

@@ -1,1 +1,2 @@
 pub mod Scenes
+pub mod Linked

@@ -1,2 +1,3 @@
 pub mod Lists
 pub mod Refusals
+pub mod Linked

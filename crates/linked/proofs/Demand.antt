@@ -1,0 +1,17 @@
+-- So demand 3 holds there, with nothing taken for granted, and there are an accepted scene and a list of calls after it.
+use mathlib.Core.List.{List}
+use prog.Memory.{Memory}
+use borrow.Fn.World.{World}
+use Rattle.position.specs.declared.PositionSyntax.{PositionSyntax}
+use Rattle.claims.specs.Calls.{Call, Accepted, SentAll}
+use Rattle.claims.specs.Demand.{Demand3}
+use Rattle.claims.proofs.Demand.{demand3}
+use Rattle.claims.proofs.Worked.{packets, worked}
+use Rattle.linked.proofs.Linked.{linked}
+
+pub demand3_linked : (w : World) → Demand3 w linked.0
+demand3_linked w = demand3 w linked.0 linked.1
+
+pub worked_linked : (w : World) →
+    ∥ ((c : Call) × (s : List PositionSyntax) × (ρ : Memory) × Accepted w linked.0 c s ρ × SentAll w linked.0 packets ρ s) ∥₁
+worked_linked w = worked w linked.0 linked.1

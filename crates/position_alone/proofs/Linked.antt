@@ -1,0 +1,9 @@
+-- Of each function here that other crates call: what of it and of the code below it a program has that is linked. The crate `linked` links them.
+use mathlib.Core.Bool.{true}
+use prog.Linked.{World, Holds, in_world}
+use prog.LinkedThreads.{HasT}
+use Rattle.position_alone.proofs.TheLink.{table, Below, linked-position_alone::read_position}
+use Rattle.position_alone.proofs.read_position.Symbol.{code as read_position_code}
+
+pub read_position : (W : World) → Holds W "position_alone" table → Below W → HasT (in_world W) true read_position_code
+read_position = linked-position_alone::read_position

@@ -1,0 +1,9 @@
+-- Of each function here that other crates call: what of it and of the code below it a program has that is linked. The crate `linked` links them.
+use mathlib.Core.Bool.{true}
+use prog.Linked.{World, Holds, in_world}
+use prog.LinkedThreads.{HasT}
+use Rattle.positions.proofs.TheLink.{table, Below, linked-positions::positions}
+use Rattle.positions.proofs.positions.Symbol.{code as positions_code}
+
+pub positions : (W : World) → Holds W "positions" table → Below W → HasT (in_world W) true positions_code
+positions = linked-positions::positions

@@ -1,0 +1,9 @@
+-- Of each function here that other crates call: what of it and of the code below it a program has that is linked. The crate `linked` links them.
+use mathlib.Core.Bool.{true}
+use prog.Linked.{World, Holds, in_world}
+use prog.LinkedThreads.{HasT}
+use Rattle.ranks.proofs.TheLink.{table, Below, linked-ranks::judge}
+use Rattle.ranks.proofs.judge.Symbol.{code as judge_code}
+
+pub judge : (W : World) → Holds W "ranks" table → Below W → HasT (in_world W) true judge_code
+judge = linked-ranks::judge

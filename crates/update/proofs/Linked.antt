@@ -1,0 +1,13 @@
+-- Of each function here that other crates call: what of it and of the code below it a program has that is linked. The crate `linked` links them.
+use mathlib.Core.Bool.{true}
+use prog.Linked.{World, Holds, in_world}
+use prog.LinkedThreads.{HasT}
+use Rattle.update.proofs.TheLink.{table, Below, linked-update::graph_update, linked-update::undecided::read_update}
+use Rattle.update.proofs.graph_update.Symbol.{code as graph_update_code}
+use Rattle.update.proofs.undecided.read_update.Symbol.{code as undecided_read_update_code}
+
+pub graph_update : (W : World) → Holds W "update" table → Below W → HasT (in_world W) true graph_update_code
+graph_update = linked-update::graph_update
+
+pub undecided_read_update : (W : World) → Holds W "update" table → Below W → HasT (in_world W) true undecided_read_update_code
+undecided_read_update = linked-update::undecided::read_update

@@ -1,0 +1,13 @@
+-- Of each function here that other crates call: what of it and of the code below it a program has that is linked. The crate `linked` links them.
+use mathlib.Core.Bool.{true}
+use prog.Linked.{World, Holds, in_world}
+use prog.LinkedThreads.{HasT}
+use Rattle.validation.proofs.TheLink.{table, Below, linked-validation::validate_graph, linked-validation::validated}
+use Rattle.validation.proofs.validate_graph.Symbol.{code as validate_graph_code}
+use Rattle.validation.proofs.validated.Symbol.{code as validated_code}
+
+pub validate_graph : (W : World) → Holds W "validation" table → Below W → HasT (in_world W) true validate_graph_code
+validate_graph = linked-validation::validate_graph
+
+pub validated : (W : World) → Holds W "validation" table → Below W → HasT (in_world W) true validated_code
+validated = linked-validation::validated

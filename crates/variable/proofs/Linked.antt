@@ -1,0 +1,9 @@
+-- Of each function here that other crates call: what of it and of the code below it a program has that is linked. The crate `linked` links them.
+use mathlib.Core.Bool.{true}
+use prog.Linked.{World, Holds, in_world}
+use prog.LinkedThreads.{HasT}
+use Rattle.variable.proofs.TheLink.{table, Below, linked-variable::passive_bits}
+use Rattle.variable.proofs.passive_bits.Symbol.{code as passive_bits_code}
+
+pub passive_bits : (W : World) → Holds W "variable" table → Below W → HasT (in_world W) true passive_bits_code
+passive_bits = linked-variable::passive_bits
