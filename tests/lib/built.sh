@@ -15,7 +15,8 @@ build_library() {
   mkdir -p "$GATEWAY_LIBRARY_DIR"
   exec {lock}>"$GATEWAY_LIBRARY_DIR/lock"
   flock "$lock"
-  if ! [ -e "$made" ] || find crates crates.txt -name out -prune -o -newer "$made" -type f -print -quit | grep -q .; then
+  # A folder is newer where a file in it was added or removed.
+  if ! [ "$made" -nt crates.txt ] || find crates -mindepth 2 -name out -prune -o -newer "$made" -print -quit | grep -q .; then
     if ! (cd crates/gateway_c && rt lib) >"$GATEWAY_LIBRARY_DIR/log" 2>&1; then
       cat "$GATEWAY_LIBRARY_DIR/log"
       return 1
