@@ -10,6 +10,8 @@ echo "file refused 23" >"$work/23"
 echo "file refused 24" >"$work/24"
 worked=crates/scene_show/stdout
 cmp docs/worked.show crates/scene_show/stdin
+# One launcher serves every program.
+cmp bin/scene-show bin/scene-fields
 
 expect 0 "" "$worked" <docs/worked.show
 expect 0 "" "$worked" < <(cat docs/worked.show)
