@@ -1,14 +1,13 @@
--- A number's decimal digits: they are those that the library `io` writes, and no more than the number needs.
-use mathlib.Core.Path.{◌≡◌, refl, sym, ap, ap₂, ◌∙◌, subst}
+-- A number's decimal digits: the last, and no more than the number needs.
+use mathlib.Core.Path.{◌≡◌, refl, sym, ap, ◌∙◌}
 use mathlib.Core.Bool.{Bool, true, false}
 use mathlib.Core.List.{List, [], ◌∷◌, ◌++◌}
 use Prim.Native.Nat.{ℕ, zero, suc, ◌+◌, ◌-◌, ◌*◌, ◌/◌, ◌%◌, ◌^◌, ◌≤◌, ◌<◌}
 use native.Mathlib.Nat.{pow-suc, pow-le-pow_right}
 use native.Mathlib.Omega.{arith}
-use borrow.Author.Tests.{ltb-true, ltb-false, lt-ltb, le-leb}
+use borrow.Author.Tests.{ltb-true, ltb-false, lt-ltb, le-ltb, le-leb}
 use lib.Dec.{ltb, lit<}
 use lib.ListN.{length, length-append}
-use Rattle.io.specs.Digits.{last_digits, hex_digit_ascii, IsDigitCount}
 use Rattle.rules.specs.Rule.{pick}
 use Rattle.rules.proofs.Pick.{by_pick}
 use Rattle.text.specs.Text.{digit, decimal_within, decimal, is_digit, value_after}
@@ -20,53 +19,24 @@ more k =
     let one : 10 ^ 0 ≤ 10 ^ k = pow-le-pow_right {n = 10} (lit< tt) {i = 0} (omega arith) in
     (omega arith, one)
 
-last : (n : ℕ) → hex_digit_ascii (n % 10) ≡ digit (n % 10)
-last n = rw (lt-ltb (n % 10) 10 (omega arith))
-
--- `k` being the fewest digits that hold a number of 10 or more, one less is the fewest for a tenth of it
-tenth : (n k : ℕ) → 10 ≤ n → IsDigitCount 10 1 n (suc k) → IsDigitCount 10 1 (n / 10) k
-tenth n zero h (a, b, c) = let z : n < 10 = b in absurd (omega arith)
-tenth n (suc k) h (a, b, c) =
-    let p = more (suc k) in
-    let q = more k in
-    let least : 10 ^ suc k ≤ n = subst (λ (m : ℕ). 10 ^ m ≤ n) (omega arith) (c (omega arith)) in
-    (omega arith, omega arith, λ _. subst (λ (m : ℕ). 10 ^ m ≤ n / 10) (let z : k ≡ suc k - 1 = omega arith in z) (omega arith))
-
--- a number below 10 has one digit
-single : (n k : ℕ) → n < 10 → IsDigitCount 10 1 n (suc k) → k ≡ 0
-single n zero h f = refl
-single n (suc k) h (a, b, c) =
-    let p = more k in
-    let least : 10 ^ suc k ≤ n = subst (λ (m : ℕ). 10 ^ m ≤ n) (omega arith) (c (omega arith)) in
-    absurd (omega arith)
-
-within : (f k n : ℕ) → IsDigitCount 10 1 n k → k ≤ f → last_digits 10 k n ≡ decimal_within f n
+-- with digits to spare, the number of digits that are let makes no difference
+spare : (k n : ℕ) → n < 10 ^ suc k → decimal_within (suc (suc k)) n ≡ decimal_within (suc k) n
 unfolding decimal_within
-within zero k n x h = absurd (omega (arith, x.0))
-within (suc f) zero n x h = absurd (omega (arith, x.0))
-within (suc f) (suc k) n x h =
-    ap₂ (λ (l : List ℕ) (d : ℕ). l ++ (d ∷ [])) (before (ltb n 10) refl (λ more. within f k (n / 10) (tenth n k more x) (omega arith))) (last n)
-  where
-    before : (b : Bool) → ltb n 10 ≡ b → (10 ≤ n → last_digits 10 k (n / 10) ≡ decimal_within f (n / 10)) →
-        last_digits 10 k (n / 10) ≡ pick b [] (decimal_within f (n / 10))
-    before true e again = rw (single n k (ltb-true n 10 e) x)
-    before false e again = again (ltb-false n 10 e)
+spare zero n h = rw (lt-ltb n 10 h) refl
+spare (suc k) n h =
+    let p = more (suc k) in
+    ap (λ (l : List ℕ). pick (ltb n 10) [] l ++ (digit (n % 10) ∷ [])) (spare k (n / 10) (omega arith))
 
--- a number of 64 bits has at most 20
-at_most_twenty : (n k : ℕ) → n < 2 ^ 64 → IsDigitCount 10 1 n k → k ≤ 20
-at_most_twenty n k h (a, b, c) = go (ltb 20 k) refl
-  where
-    go : (b : Bool) → ltb 20 k ≡ b → k ≤ 20
-    go false e = ltb-false 20 k e
-    go true e =
-        let l : 20 < k = ltb-true 20 k e in
-        let g : 10 ^ 20 ≤ 10 ^ (k - 1) = pow-le-pow_right {n = 10} (lit< tt) {i = 20} (omega arith) in
-        let m : 10 ^ (k - 1) ≤ n = c (omega arith) in
-        absurd (omega arith)
+-- a digit alone, and a digit after those of a tenth
+pub decimal_few : (n : ℕ) → n < 10 → decimal n ≡ digit n ∷ []
+unfolding decimal decimal_within
+decimal_few n h = let e : n % 10 ≡ n = omega arith in rw (lt-ltb n 10 h, e) refl
 
-pub digits_decimal : (n k : ℕ) → n < 2 ^ 64 → IsDigitCount 10 1 n k → last_digits 10 k n ≡ decimal n
-unfolding decimal
-digits_decimal n k h x = within 20 k n x (at_most_twenty n k h x)
+pub decimal_more : (n : ℕ) → 10 ≤ n → n < 2 ^ 64 → decimal n ≡ decimal (n / 10) ++ (digit (n % 10) ∷ [])
+unfolding decimal decimal_within
+decimal_more n some h =
+    ap (λ (b : Bool). pick b [] (decimal_within 19 (n / 10)) ++ (digit (n % 10) ∷ [])) (le-ltb n 10 some)
+    ∙ ap (λ (l : List ℕ). l ++ (digit (n % 10) ∷ [])) (sym (spare 18 (n / 10) (omega arith)))
 
 -- a number below 10 to the power of `k` has at most `k` digits, at least one
 before : (b : Bool) (l : List ℕ) (n k : ℕ) → ltb n 10 ≡ b → n < 10 ^ suc k → ((j : ℕ) → k ≡ suc j → length l ≤ k) → length (pick b [] l) ≤ k

@@ -1,10 +1,10 @@
 -- Texts put one after the other.
 use Prim.Native.Nat.{ℕ, suc, ◌+◌, ◌≤◌}
 use mathlib.Core.Path.{◌≡◌, refl, sym, ap, ◌∙◌}
-use mathlib.Core.List.{List, [], ◌∷◌, ◌++◌}
+use mathlib.Core.List.{List, [], ◌∷◌, ◌++◌, append-nil}
 use native.Mathlib.Omega.{arith}
 use native.Mathlib.Nat.{add-zero}
-use lib.ListN.{length, length-append, set, take, drop}
+use lib.ListN.{length, length-append, set, take, drop, drop_of_length-le}
 use lib.Seq.{take-set-le, drop-set-lt, sets, sets-eq, length-sets, take_at}
 use Rattle.rules.proofs.Words.{sets_append}
 use Rattle.text.specs.Text.{Put}
@@ -32,6 +32,14 @@ pub put_front : {before text : List ℕ} {to : ℕ} {after : List ℕ} → Put b
 put_front {before} {text} p h =
     let e : 0 + length text ≡ length text = omega arith in
     rw (p.bytes, p.place, e, sets-eq text before 0 (omega arith)) (take_at text (drop (0 + length text) before) (length text) refl)
+
+-- and is all that stands there if it is as long as the bytes
+pub put_whole : {before text : List ℕ} {to : ℕ} {after : List ℕ} → Put before 0 text to after → length text ≡ length before → after ≡ text
+put_whole {before} {text} p h =
+    p.bytes
+    ∙ sets-eq text before 0 (omega arith)
+    ∙ ap (λ (l : List ℕ). text ++ l) (drop_of_length-le before (omega arith))
+    ∙ append-nil text
 
 -- and the bytes before a text and after it are as they were
 sets_before : (l : List ℕ) (i : ℕ) (vs : List ℕ) (n : ℕ) → n ≤ i → take n (sets l i vs) ≡ take n l

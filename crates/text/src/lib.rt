@@ -3,8 +3,8 @@
 
 pub mod table;
 
-ghost use Rattle.std.specs.Prelude.{◌+◌, ◌≤◌, [], ◌∷◌, ◌++◌, length};
-ghost use Rattle.text.specs.Text.{decimal, Put};
+ghost use Rattle.std.specs.Prelude.{◌+◌, ◌≤◌, ◌<◌, [], ◌∷◌, ◌++◌, length};
+ghost use Rattle.text.specs.Text.{digit, decimal, Put};
 
 use rules::Outcome;
 
@@ -24,8 +24,22 @@ pub fn put(out: &mut [u8], at: usize, text: &[u8]) -> usize
     requires { at + length text.now ≤ length out.old }
     ensures { Put out.old at text.now result out.new }
 {
-    out[at..at + text.len()].copy_from_slice(text);
+    let mut i = 0;
+    while i < text.len() {
+        out[at + i] = text[i];
+        i += 1;
+    }
     at + text.len()
+}
+
+// Puts a digit.
+fn put_digit(out: &mut [u8], at: usize, d: u64) -> usize
+    requires room { at < length out.old }
+    requires one_digit { d < 10 }
+    ensures { Put out.old at (digit d ∷ []) result out.new }
+{
+    out[at] = 48 + d as u8;
+    at + 1
 }
 
 // Puts a number in decimal.
@@ -33,9 +47,11 @@ pub fn put_decimal(out: &mut [u8], at: usize, n: u64) -> usize
     requires { at + length (decimal n) ≤ length out.old }
     ensures { Put out.old at (decimal n) result out.new }
 {
-    let mut digits = [0u8; 20];
-    let k = io::decimal(n, &mut digits);
-    put(out, at, &digits[..k])
+    if n < 10 {
+        return put_digit(out, at, n);
+    }
+    let last = put_decimal(out, at, n / 10);
+    put_digit(out, last, n % 10)
 }
 
 // Puts a word and the number after it.

@@ -2,6 +2,8 @@
 ghost use Rattle.std.specs.Prelude.{◌≡◌, ◌+◌, ◌*◌, ◌≤◌, ◌<◌, leb, length, take, drop};
 ghost use Rattle.rules.specs.Rule.{pick};
 
+use super::put;
+
 // Row `n` of a table.
 fn row(table: &[u8], n: usize) -> [u8; 59]
     requires { 59 * n + 59 ≤ length table.now }
@@ -9,7 +11,7 @@ fn row(table: &[u8], n: usize) -> [u8; 59]
 {
     let start = 59 * n;
     let mut row = [0u8; 59];
-    row.copy_from_slice(&table[start..start + 59]);
+    put(&mut row, 0, &table[start..start + 59]);
     row
 }
 
