@@ -10,8 +10,8 @@ use Rattle.claims.proofs.Worked.{packets, worked}
 use Rattle.linked.proofs.Linked.{linked}
 
 pub demand3_linked : (w : World) → Demand3 w linked.0
-demand3_linked w = demand3 w linked.0 linked.1
+demand3_linked w = demand3 w linked.0 linked.1.readings
 
 pub worked_linked : (w : World) →
     ∥ ((c : Call) × (s : List PositionSyntax) × (ρ : Memory) × Accepted w linked.0 c s ρ × SentAll w linked.0 packets ρ s) ∥₁
-worked_linked w = worked w linked.0 linked.1
+worked_linked w = worked w linked.0 linked.1.readings

@@ -1,3 +1,4 @@
 pub mod Letters
 pub mod Lengths
 pub mod Distinct
+pub mod Linked

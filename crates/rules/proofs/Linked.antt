@@ -2,7 +2,8 @@
 use mathlib.Core.Bool.{true}
 use prog.Linked.{World, Holds, in_world}
 use prog.LinkedThreads.{HasT}
-use Rattle.rules.proofs.TheLink.{table, Below, linked-rules::FieldValue::kind, linked-rules::FieldValue::number, linked-rules::Outcome::is_read, linked-rules::State::answer, linked-rules::State::ended, linked-rules::State::fresh, linked-rules::State::is_read, linked-rules::State::moved}
+use Rattle.rules.proofs.TheLink.{table, Below, linked-rules::Field::at, linked-rules::FieldValue::kind, linked-rules::FieldValue::number, linked-rules::Outcome::is_read, linked-rules::State::answer, linked-rules::State::ended, linked-rules::State::fresh, linked-rules::State::is_read, linked-rules::State::moved}
+use Rattle.rules.proofs.Field.at.Symbol.{code as field_at_code}
 use Rattle.rules.proofs.FieldValue.kind.Symbol.{code as field_value_kind_code}
 use Rattle.rules.proofs.FieldValue.number.Symbol.{code as field_value_number_code}
 use Rattle.rules.proofs.Outcome.is_read.Symbol.{code as outcome_is_read_code}
@@ -11,6 +12,9 @@ use Rattle.rules.proofs.State.ended.Symbol.{code as state_ended_code}
 use Rattle.rules.proofs.State.fresh.Symbol.{code as state_fresh_code}
 use Rattle.rules.proofs.State.is_read.Symbol.{code as state_is_read_code}
 use Rattle.rules.proofs.State.moved.Symbol.{code as state_moved_code}
+
+pub field_at : (W : World) → Holds W "rules" table → Below W → HasT (in_world W) true field_at_code
+field_at = linked-rules::Field::at
 
 pub field_value_kind : (W : World) → Holds W "rules" table → Below W → HasT (in_world W) true field_value_kind_code
 field_value_kind = linked-rules::FieldValue::kind

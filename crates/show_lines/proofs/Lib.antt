@@ -1,2 +1,3 @@
 pub mod Positions
 pub mod Room
+pub mod Linked

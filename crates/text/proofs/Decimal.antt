@@ -19,10 +19,14 @@ more k =
     let one : 10 ^ 0 ≤ 10 ^ k = pow-le-pow_right {n = 10} (lit< tt) {i = 0} (omega arith) in
     (omega arith, one)
 
+-- nothing stands before a digit alone
+alone : (n : ℕ) (l m : List ℕ) → n < 10 → pick (ltb n 10) [] l ≡ pick (ltb n 10) [] m
+alone n l m h = rw (lt-ltb n 10 h) refl
+
 -- with digits to spare, the number of digits that are let makes no difference
 spare : (k n : ℕ) → n < 10 ^ suc k → decimal_within (suc (suc k)) n ≡ decimal_within (suc k) n
 unfolding decimal_within
-spare zero n h = rw (lt-ltb n 10 h) refl
+spare zero n h = ap (λ (l : List ℕ). l ++ (digit (n % 10) ∷ [])) (alone n (decimal_within 1 (n / 10)) [] h)
 spare (suc k) n h =
     let p = more (suc k) in
     ap (λ (l : List ℕ). pick (ltb n 10) [] l ++ (digit (n % 10) ∷ [])) (spare k (n / 10) (omega arith))

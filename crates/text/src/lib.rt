@@ -1,4 +1,5 @@
-// Text put into bytes that the caller lends, at a place where there is room for it.
+// Text put into bytes that the caller lends, at a place where there is room for it. Nothing of the library is called: the crate
+// `linked` has to name the code of all that the claims speak of, and the library's can't be named.
 #![tactic(auto)]
 
 pub mod table;

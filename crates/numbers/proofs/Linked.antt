@@ -1,0 +1,9 @@
+-- Of each function here that other crates call: what of it and of the code below it a program has that is linked. The crate `linked` links them.
+use mathlib.Core.Bool.{true}
+use prog.Linked.{World, Holds, in_world}
+use prog.LinkedThreads.{HasT}
+use Rattle.numbers.proofs.TheLink.{table, Below, linked-numbers::put_meaning}
+use Rattle.numbers.proofs.put_meaning.Symbol.{code as put_meaning_code}
+
+pub put_meaning : (W : World) → Holds W "numbers" table → Below W → HasT (in_world W) true put_meaning_code
+put_meaning = linked-numbers::put_meaning

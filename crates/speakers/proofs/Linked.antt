@@ -1,0 +1,9 @@
+-- Of each function here that other crates call: what of it and of the code below it a program has that is linked. The crate `linked` links them.
+use mathlib.Core.Bool.{true}
+use prog.Linked.{World, Holds, in_world}
+use prog.LinkedThreads.{HasT}
+use Rattle.speakers.proofs.TheLink.{table, Below, linked-speakers::labelled_layout}
+use Rattle.speakers.proofs.labelled_layout.Symbol.{code as labelled_layout_code}
+
+pub labelled_layout : (W : World) → Holds W "speakers" table → Below W → HasT (in_world W) true labelled_layout_code
+labelled_layout = linked-speakers::labelled_layout
