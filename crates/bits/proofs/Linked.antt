@@ -1,4 +1,4 @@
--- Of each function here that other crates call: what of it and of the code below it a program has that is linked. The crate `linked` links them.
+-- A program that has this crate's table, and the code of what the crate calls, has the code of these functions: for the crate `linked`.
 use mathlib.Core.Bool.{true}
 use prog.Linked.{World, Holds, in_world}
 use prog.LinkedThreads.{HasT}

@@ -2,4 +2,3 @@ pub mod Calls
 pub mod Any
 pub mod Demand
 pub mod Worked
-pub mod Linked

@@ -1,4 +1,5 @@
--- Of each function here that `linked` links: what of it a program has that is linked, if it has the code of what the function calls.
+-- A program that has this crate's table, and the code of what one of these functions calls, has the code of the function: for the
+-- crate `linked`.
 use mathlib.Core.Bool.{true}
 use prog.Linked.{World, Holds, in_world}
 use prog.LinkedThreads.{HasT}

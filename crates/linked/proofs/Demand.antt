@@ -1,4 +1,5 @@
--- So demand 3 holds there, with nothing taken for granted, and there are an accepted scene and a list of calls after it.
+-- In the environment of the linked program demand 3 holds, with nothing taken for granted, and there are an accepted scene and a list
+-- of calls after it.
 use mathlib.Core.List.{List}
 use prog.Memory.{Memory}
 use borrow.Fn.World.{World}

@@ -92,7 +92,7 @@ module _ (γ : Env) where
   each_line p q (of_field share words i) = p
   each_line p q (of_outcome answer) = q
 
--- the codes of what a crate calls, as its `Below` has them
+-- what is shown of the functions that a crate calls, one after another, as its `Below` has them
 abbrev ◌&◌ : {A B : Type 0} → A → B → A × B
 a & b = (a, b)
 

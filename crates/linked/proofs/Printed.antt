@@ -1,4 +1,4 @@
--- So do the claims on what is printed: on the show, and on `scene-fields`.
+-- In the environment of the linked program the claims on the show and on `scene-fields` hold, with nothing taken for granted.
 use borrow.Fn.World.{World}
 use Rattle.printed_claims.specs.Show.{ShowClaim}
 use Rattle.printed_claims.specs.Listing.{ListingClaim}

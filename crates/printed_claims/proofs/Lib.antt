@@ -1,3 +1,2 @@
 pub mod Show
 pub mod Listing
-pub mod Linked

@@ -1,4 +1,4 @@
--- A number's decimal digits: the last, and no more than the number needs.
+-- A number's decimal digits: those of its tenth and the last one, how many they are, and the number had back from them.
 use mathlib.Core.Path.{◌≡◌, refl, sym, ap, ◌∙◌}
 use mathlib.Core.Bool.{Bool, true, false}
 use mathlib.Core.List.{List, [], ◌∷◌, ◌++◌}
@@ -23,7 +23,7 @@ more k =
 alone : (n : ℕ) (l m : List ℕ) → n < 10 → pick (ltb n 10) [] l ≡ pick (ltb n 10) [] m
 alone n l m h = rw (lt-ltb n 10 h) refl
 
--- with digits to spare, the number of digits that are let makes no difference
+-- a limit on the digits that is one larger than needed makes no difference
 spare : (k n : ℕ) → n < 10 ^ suc k → decimal_within (suc (suc k)) n ≡ decimal_within (suc k) n
 unfolding decimal_within
 spare zero n h = ap (λ (l : List ℕ). l ++ (digit (n % 10) ∷ [])) (alone n (decimal_within 1 (n / 10)) [] h)

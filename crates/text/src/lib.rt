@@ -1,5 +1,5 @@
-// Text put into bytes that the caller lends, at a place where there is room for it. Nothing of the library is called: the crate
-// `linked` has to name the code of all that the claims speak of, and the library's can't be named.
+// Text put into bytes that the caller lends, at a place where there is room for it. No function of the kit is called: the crate
+// `linked` needs the link of every function that is, and the kit keeps those of its own to itself.
 #![tactic(auto)]
 
 pub mod table;
@@ -39,7 +39,7 @@ fn put_digit(out: &mut [u8], at: usize, d: u64) -> usize
     requires one_digit { d < 10 }
     ensures { Put out.old at (digit d ∷ []) result out.new }
 {
-    out[at] = 48 + d as u8;
+    out[at] = b'0' + d as u8;
     at + 1
 }
 
