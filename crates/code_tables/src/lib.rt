@@ -2,52 +2,42 @@
 // table begin with the word `q`.
 #![tactic(auto)]
 
-ghost use Rattle.std.specs.Prelude.{◌≡◌, ◌≤◌, ◌<◌, ◌^◌};
+ghost use Rattle.std.specs.Prelude.{◌≡◌, ◌≤◌, ◌<◌, ◌^◌, IfOk};
 ghost use Rattle.rules.specs.Derived.{repeat};
-ghost use Rattle.rules.specs.Met.{Met, Sound};
-ghost use Rattle.fields.specs.Taken.{Took};
+ghost use Rattle.parser.specs.Met.{Met};
 ghost use Rattle.code_tables.specs.Tables.{codeword, entries, table, table_count, tables};
 
-use reader::Taken;
-use rules::{Field, State, block, leaf};
+use parser::{Parser, tri};
+use rules::{Field, Reason, block, leaf};
 
 // Codeword `j` of the table whose names begin with `q`.
-fn codeword(bytes: &[u8], words: &mut [u64], s: State, q: u64, j: u64) -> State
-    requires sound { Sound s }
+fn codeword(parser: &mut Parser<'_>, q: u64, j: u64) -> Result<(), Reason>
     requires q_bound { q < 2 ^ 38 }
     requires j_bound { j < 4096 }
-    ensures { Met (codeword q j) bytes.now words.old s tt result words.new }
+    ensures { Met (codeword q j) parser.old result parser.new }
 {
-    let w = variable::escaped(
-        bytes,
-        words,
-        s,
+    let width = tri!(parser.escaped(
         q + leaf::CODE_WIDTH_MINUS_ONE + Field::THIRD * j,
-        [5, 8, 16],
-    );
-    let s1 = w.state;
-    let width = w.value as usize + 1;
-    if width <= 64 {
-        let v = fields::take(bytes, words, s1, q + leaf::CODE + Field::THIRD * j, width);
-        return v.state;
+        [5, 8, 16]
+    )) as usize
+        + 1;
+    if 64 < width {
+        return Err(Reason::CodewordWidth);
     }
-    reader::invalid(s1, 21)
+    tri!(parser.take(q + leaf::CODE + Field::THIRD * j, width));
+    Ok(())
 }
 
 // The `n` codewords of a table.
-fn codewords(bytes: &[u8], words: &mut [u64], s: State, q: u64, n: u64) -> State
-    requires sound { Sound s }
+fn codewords(parser: &mut Parser<'_>, q: u64, n: u64) -> Result<(), Reason>
     requires q_bound { q < 2 ^ 38 }
     requires n_bound { n ≤ 4096 }
-    ensures { Met (repeat (codeword q) n) bytes.now words.old s tt result words.new }
+    ensures { Met (repeat (codeword q) n) parser.old result parser.new }
 {
-    let mut t = s;
-    let mut j: u64 = 0;
-    while j < n && t.is_read() {
-        t = codeword(bytes, words, t, q, j);
-        j += 1;
+    for j in 0..n {
+        tri!(codeword(parser, q, j));
     }
-    t
+    Ok(())
 }
 
 // How many symbols have `width` bits.
@@ -59,77 +49,55 @@ fn symbols(width: u64) -> u64
 }
 
 // The entries of a table for symbols of `width` bits.
-fn entries(bytes: &[u8], words: &mut [u64], s: State, kind: u64, q: u64, width: u64) -> State
-    requires sound { Sound s }
+fn entries(parser: &mut Parser<'_>, kind: u64, q: u64, width: u64) -> Result<(), Reason>
     requires q_bound { q < 2 ^ 38 }
     requires width_bound { width ≤ 12 }
-    ensures { Met (entries kind q width) bytes.now words.old s tt result words.new }
+    ensures { Met (entries kind q width) parser.old result parser.new }
 {
     let n = symbols(width);
     if kind == 3 {
-        return codewords(bytes, words, s, q, n);
+        return codewords(parser, q, n);
     }
-    probability::probabilities(bytes, words, s, q, n)
+    probability::probabilities(parser, q, n)
 }
 
 // Table `i`.
-fn table(bytes: &[u8], words: &mut [u64], s: State, kind: u64, i: u64) -> State
-    requires sound { Sound s }
-    requires i_bound { i < 4096 }
-    ensures { Met (table kind i) bytes.now words.old s tt result words.new }
+fn table(parser: &mut Parser<'_>, kind: u64, i: u64) -> Result<(), Reason>
+    requires { i < 4096 }
+    ensures { Met (table kind i) parser.old result parser.new }
 {
     let q = block::TABLES + Field::FIRST * i;
-    let w = variable::escaped(
-        bytes,
-        words,
-        s,
-        q + leaf::SYMBOL_WIDTH_MINUS_ONE,
-        [5, 8, 16],
-    );
-    let s1 = w.state;
-    if w.value + 1 <= 12 {
-        return entries(bytes, words, s1, kind, q, w.value + 1);
+    let width = tri!(parser.escaped(q + leaf::SYMBOL_WIDTH_MINUS_ONE, [5, 8, 16])) + 1;
+    if 12 < width {
+        return Err(Reason::SymbolWidth);
     }
-    reader::invalid(s1, 20)
+    entries(parser, kind, q, width)
 }
 
 // How many tables there are.
-fn table_count(bytes: &[u8], words: &mut [u64], s: State) -> Taken
-    requires { Sound s }
-    ensures { Took table_count 4097 bytes.now words.old s result.value result.state words.new }
+fn table_count(parser: &mut Parser<'_>) -> Result<u64, Reason>
+    ensures met { Met table_count parser.old result parser.new }
+    ensures small { IfOk result (λ v. v < 4097) }
 {
-    let n = variable::escaped(
-        bytes,
-        words,
-        s,
-        block::COMPRESSION + leaf::TABLE_COUNT_MINUS_ONE,
-        [3, 8, 16],
-    );
-    let s1 = n.state;
-    fields::count(s1, n.value + 1, 5)
+    let n = tri!(parser.escaped(block::COMPRESSION + leaf::TABLE_COUNT_MINUS_ONE, [3, 8, 16]));
+    parser.count(n + 1, 5)
 }
 
 // `n` tables.
-fn each_table(bytes: &[u8], words: &mut [u64], s: State, kind: u64, n: u64) -> State
-    requires sound { Sound s }
-    requires n_bound { n ≤ 4096 }
-    ensures { Met (repeat (table kind) n) bytes.now words.old s tt result words.new }
+fn each_table(parser: &mut Parser<'_>, kind: u64, n: u64) -> Result<(), Reason>
+    requires { n ≤ 4096 }
+    ensures { Met (repeat (table kind) n) parser.old result parser.new }
 {
-    let mut t = s;
-    let mut i: u64 = 0;
-    while i < n && t.is_read() {
-        t = table(bytes, words, t, kind, i);
-        i += 1;
+    for i in 0..n {
+        tri!(table(parser, kind, i));
     }
-    t
+    Ok(())
 }
 
 // The tables.
-pub fn tables(bytes: &[u8], words: &mut [u64], s: State, kind: u64) -> State
-    requires { Sound s }
-    ensures { Met (tables kind) bytes.now words.old s tt result words.new }
+pub fn tables(parser: &mut Parser<'_>, kind: u64) -> Result<(), Reason>
+    ensures { Met (tables kind) parser.old result parser.new }
 {
-    let n = table_count(bytes, words, s);
-    let s1 = n.state;
-    each_table(bytes, words, s1, kind, n.value)
+    let n = tri!(table_count(parser));
+    each_table(parser, kind, n)
 }

@@ -1,7 +1,5 @@
 -- A program that has this crate's table, and the code of what the crate calls, has the code of these functions: for the crate `linked`.
-use mathlib.Core.Bool.{true}
-use prog.Linked.{World, Holds, in_world}
-use prog.LinkedThreads.{HasT}
+use Rattle.rules.proofs.Table.{HasAt}
 use Rattle.common.proofs.TheLink.{table, Below, linked-common::metadata_resource, linked-common::metadata_reverb, linked-common::number, linked-common::number_if, linked-common::number_unless, linked-common::payload, linked-common::resource_parameters, linked-common::values}
 use Rattle.common.proofs.metadata_resource.Symbol.{code as metadata_resource_code}
 use Rattle.common.proofs.metadata_reverb.Symbol.{code as metadata_reverb_code}
@@ -12,26 +10,26 @@ use Rattle.common.proofs.payload.Symbol.{code as payload_code}
 use Rattle.common.proofs.resource_parameters.Symbol.{code as resource_parameters_code}
 use Rattle.common.proofs.values.Symbol.{code as values_code}
 
-pub metadata_resource : (W : World) → Holds W "common" table → Below W → HasT (in_world W) true metadata_resource_code
+pub metadata_resource : HasAt "common" table Below metadata_resource_code
 metadata_resource = linked-common::metadata_resource
 
-pub metadata_reverb : (W : World) → Holds W "common" table → Below W → HasT (in_world W) true metadata_reverb_code
+pub metadata_reverb : HasAt "common" table Below metadata_reverb_code
 metadata_reverb = linked-common::metadata_reverb
 
-pub number : (W : World) → Holds W "common" table → Below W → HasT (in_world W) true number_code
+pub number : HasAt "common" table Below number_code
 number = linked-common::number
 
-pub number_if : (W : World) → Holds W "common" table → Below W → HasT (in_world W) true number_if_code
+pub number_if : HasAt "common" table Below number_if_code
 number_if = linked-common::number_if
 
-pub number_unless : (W : World) → Holds W "common" table → Below W → HasT (in_world W) true number_unless_code
+pub number_unless : HasAt "common" table Below number_unless_code
 number_unless = linked-common::number_unless
 
-pub payload : (W : World) → Holds W "common" table → Below W → HasT (in_world W) true payload_code
+pub payload : HasAt "common" table Below payload_code
 payload = linked-common::payload
 
-pub resource_parameters : (W : World) → Holds W "common" table → Below W → HasT (in_world W) true resource_parameters_code
+pub resource_parameters : HasAt "common" table Below resource_parameters_code
 resource_parameters = linked-common::resource_parameters
 
-pub values : (W : World) → Holds W "common" table → Below W → HasT (in_world W) true values_code
+pub values : HasAt "common" table Below values_code
 values = linked-common::values

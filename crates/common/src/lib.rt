@@ -3,122 +3,99 @@
 #![tactic(auto)]
 
 ghost use Rattle.std.specs.Prelude.{◌≤◌, ◌<◌, ◌^◌, length};
-ghost use Rattle.rules.specs.Met.{Met, Sound};
-ghost use Rattle.fields.specs.Taken.{Narrow};
+ghost use Rattle.parser.specs.Met.{Met};
+ghost use Rattle.parser.specs.Widths.{Narrow};
 ghost use Rattle.common.specs.Common.{number, number_if, number_unless, values, payload, resource_parameters, metadata_resource, reverb_parameter, reverb_parameters, metadata_reverb};
 
-use rules::{Field, State, leaf};
+use parser::{Parser, tri};
+use rules::{Field, Reason, leaf};
 
 // A number on which nothing depends.
-pub fn number(bytes: &[u8], words: &mut [u64], s: State, name: u64, width: usize) -> State
-    requires sound { Sound s }
-    requires width_bound { width ≤ 64 }
-    ensures { Met (number name width) bytes.now words.old s tt result words.new }
+pub fn number(parser: &mut Parser<'_>, name: u64, width: usize) -> Result<(), Reason>
+    requires { width ≤ 64 }
+    ensures { Met (number name width) parser.old result parser.new }
 {
-    let a = fields::take(bytes, words, s, name, width);
-    a.state
+    tri!(parser.take(name, width));
+    Ok(())
 }
 
 // A number, if the flag `test` is set.
-pub fn number_if(
-    bytes: &[u8],
-    words: &mut [u64],
-    s: State,
-    test: u64,
-    name: u64,
-    width: usize,
-) -> State
-    requires sound { Sound s }
-    requires width_bound { width ≤ 64 }
-    ensures { Met (number_if test name width) bytes.now words.old s tt result words.new }
+pub fn number_if(parser: &mut Parser<'_>, test: u64, name: u64, width: usize) -> Result<(), Reason>
+    requires { width ≤ 64 }
+    ensures { Met (number_if test name width) parser.old result parser.new }
 {
-    let a = fields::flag(bytes, words, s, test);
-    let s1 = a.state;
-    if a.value {
-        return number(bytes, words, s1, name, width);
+    let present = tri!(parser.flag(test));
+    if present {
+        return number(parser, name, width);
     }
-    s1
+    Ok(())
 }
 
 // A number, unless the flag `test` is set.
 pub fn number_unless(
-    bytes: &[u8],
-    words: &mut [u64],
-    s: State,
+    parser: &mut Parser<'_>,
     test: u64,
     name: u64,
     width: usize,
-) -> State
-    requires sound { Sound s }
-    requires width_bound { width ≤ 64 }
-    ensures { Met (number_unless test name width) bytes.now words.old s tt result words.new }
+) -> Result<(), Reason>
+    requires { width ≤ 64 }
+    ensures { Met (number_unless test name width) parser.old result parser.new }
 {
-    let a = fields::flag(bytes, words, s, test);
-    let s1 = a.state;
-    if a.value {
-        return s1;
+    let absent = tri!(parser.flag(test));
+    if absent {
+        return Ok(());
     }
-    number(bytes, words, s1, name, width)
+    number(parser, name, width)
 }
 
 // Numbers of these widths: `passive_values`, with the name of the first.
-pub fn values(bytes: &[u8], words: &mut [u64], s: State, name: u64, widths: &[usize]) -> State
-    requires sound { Sound s }
+pub fn values(parser: &mut Parser<'_>, name: u64, widths: &[usize]) -> Result<(), Reason>
     requires name_bound { name < 2 ^ 39 }
     requires narrow { Narrow widths.now }
     requires widths_len_bound { length widths.now ≤ 64 }
-    ensures { Met (values name widths.now) bytes.now words.old s tt result words.new }
+    ensures { Met (values name widths.now) parser.old result parser.new }
 {
-    fields::passive_values(bytes, words, s, name, Field::THIRD, widths)
+    parser.passive_values(name, Field::THIRD, widths)
 }
 
 // A payload of as many bytes as it says.
-pub fn payload(bytes: &[u8], words: &mut [u64], s: State, p: u64) -> State
-    requires sound { Sound s }
-    requires p_bound { p < 2 ^ 38 }
-    ensures { Met (payload p) bytes.now words.old s tt result words.new }
+pub fn payload(parser: &mut Parser<'_>, p: u64) -> Result<(), Reason>
+    requires { p < 2 ^ 38 }
+    ensures { Met (payload p) parser.old result parser.new }
 {
-    let n = variable::escaped(bytes, words, s, p + leaf::BYTES_MINUS_ONE, [4, 8, 16]);
-    let s1 = n.state;
-    variable::passive_bits(words, s1, p + leaf::PAYLOAD, (n.value as usize + 1) * 8)
+    let n = tri!(parser.escaped(p + leaf::BYTES_MINUS_ONE, [4, 8, 16]));
+    parser.passive_bits(p + leaf::PAYLOAD, (n as usize + 1) * 8)
 }
 
 // The two parameters of a resource and of a matrix.
-pub fn resource_parameters(bytes: &[u8], words: &mut [u64], s: State, p: u64) -> State
-    requires sound { Sound s }
-    requires p_bound { p < 2 ^ 39 }
-    ensures { Met (resource_parameters p) bytes.now words.old s tt result words.new }
+pub fn resource_parameters(parser: &mut Parser<'_>, p: u64) -> Result<(), Reason>
+    requires { p < 2 ^ 39 }
+    ensures { Met (resource_parameters p) parser.old result parser.new }
 {
-    let a = variable::escaped(bytes, words, s, p + leaf::PARAMETER_0, [1, 3, 8]);
-    let s1 = a.state;
-    let b = variable::escaped(bytes, words, s1, p + leaf::PARAMETER_1, [1, 3, 8]);
-    b.state
+    tri!(parser.escaped(p + leaf::PARAMETER_0, [1, 3, 8]));
+    tri!(parser.escaped(p + leaf::PARAMETER_1, [1, 3, 8]));
+    Ok(())
 }
 
 // `metadata_resource`. A resource under a name of its own has its leaves `leaf::RESOURCE` further.
-pub fn metadata_resource(bytes: &[u8], words: &mut [u64], s: State, p: u64) -> State
-    requires sound { Sound s }
-    requires p_bound { p < 2 ^ 39 }
-    ensures { Met (metadata_resource p) bytes.now words.old s tt result words.new }
+pub fn metadata_resource(parser: &mut Parser<'_>, p: u64) -> Result<(), Reason>
+    requires { p < 2 ^ 39 }
+    ensures { Met (metadata_resource p) parser.old result parser.new }
 {
-    let a = fields::take(bytes, words, s, p + leaf::TYPE, 2);
-    let s1 = a.state;
-    resource_parameters(bytes, words, s1, p)
+    tri!(parser.take(p + leaf::TYPE, 2));
+    resource_parameters(parser, p)
 }
 
 // Parameter `i` of a reverb.
-fn reverb_parameter(bytes: &[u8], words: &mut [u64], s: State, p: u64, i: u64) -> State
-    requires sound { Sound s }
+fn reverb_parameter(parser: &mut Parser<'_>, p: u64, i: u64) -> Result<(), Reason>
     requires p_bound { p < 2 ^ 38 }
     requires i_bound { i < 8 }
-    ensures { Met (reverb_parameter p i) bytes.now words.old s tt result words.new }
+    ensures { Met (reverb_parameter p i) parser.old result parser.new }
 {
     let widths: [usize; 8] = [10, 10, 8, 9, 12, 7, 7, 7];
     let width = widths[i as usize];
     number_if(
-        bytes,
-        words,
-        s,
+        parser,
         p + leaf::REVERB_PRESENT + Field::THIRD * i,
         p + leaf::REVERB_ENCODED + Field::THIRD * i,
         width,
@@ -126,30 +103,24 @@ fn reverb_parameter(bytes: &[u8], words: &mut [u64], s: State, p: u64, i: u64) -
 }
 
 // The parameters of a reverb from one number up to another.
-fn reverb_parameters(bytes: &[u8], words: &mut [u64], s: State, p: u64, from: u64, to: u64) -> State
-    requires sound { Sound s }
+fn reverb_parameters(parser: &mut Parser<'_>, p: u64, from: u64, to: u64) -> Result<(), Reason>
     requires p_bound { p < 2 ^ 38 }
     requires from_le_to { from ≤ to }
     requires to_bound { to ≤ 8 }
-    ensures { Met (reverb_parameters p from to) bytes.now words.old s tt result words.new }
+    ensures { Met (reverb_parameters p from to) parser.old result parser.new }
 {
-    let mut t = s;
-    let mut i = from;
-    while i < to {
-        t = reverb_parameter(bytes, words, t, p, i);
-        i += 1;
+    for i in from..to {
+        tri!(reverb_parameter(parser, p, i));
     }
-    t
+    Ok(())
 }
 
 // `metadata_reverb`: five parameters, a flag, and three more.
-pub fn metadata_reverb(bytes: &[u8], words: &mut [u64], s: State, p: u64) -> State
-    requires sound { Sound s }
-    requires p_bound { p < 2 ^ 38 }
-    ensures { Met (metadata_reverb p) bytes.now words.old s tt result words.new }
+pub fn metadata_reverb(parser: &mut Parser<'_>, p: u64) -> Result<(), Reason>
+    requires { p < 2 ^ 38 }
+    ensures { Met (metadata_reverb p) parser.old result parser.new }
 {
-    let s1 = reverb_parameters(bytes, words, s, p, 0, 5);
-    let a = fields::flag(bytes, words, s1, p + leaf::REVERB_FLAG);
-    let s2 = a.state;
-    reverb_parameters(bytes, words, s2, p, 5, 8)
+    tri!(reverb_parameters(parser, p, 0, 5));
+    tri!(parser.flag(p + leaf::REVERB_FLAG));
+    reverb_parameters(parser, p, 5, 8)
 }

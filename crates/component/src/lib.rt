@@ -1,152 +1,126 @@
 // The component of a group: passive_metadata.rs, in `metadata_configuration`. `q` is the word that the names of a group begin with.
 #![tactic(auto)]
 
-ghost use Rattle.std.specs.Prelude.{◌<◌, ◌^◌};
-ghost use Rattle.rules.specs.Met.{Met, Sound};
-ghost use Rattle.fields.specs.Taken.{Took};
+ghost use Rattle.std.specs.Prelude.{◌<◌, ◌^◌, IfOk};
+ghost use Rattle.parser.specs.Met.{Met};
 ghost use Rattle.component.specs.Component.{metadata_esc, metadata_number, second_parameter, both_parameters, component_parameters, component_reference, each_channel_index, channel_indices, channels, component, component_unless_default};
 
-use reader::Taken;
-use rules::{Field, State, leaf};
+use parser::{Parser, tri};
+use rules::{Field, Reason, leaf};
 
 // `metadata_esc`: an escaped number of the widths that metadata has most often.
-pub fn metadata_esc(bytes: &[u8], words: &mut [u64], s: State, name: u64) -> Taken
-    requires { Sound s }
-    ensures { Took (metadata_esc name) (2 ^ 22) bytes.now words.old s result.value result.state words.new }
+pub fn metadata_esc(parser: &mut Parser<'_>, name: u64) -> Result<u64, Reason>
+    ensures met { Met (metadata_esc name) parser.old result parser.new }
+    ensures small { IfOk result (λ v. v < 2 ^ 22) }
 {
-    variable::escaped(bytes, words, s, name, [4, 7, 10])
+    parser.escaped(name, [4, 7, 10])
 }
 
 // The same, where nothing depends on the number.
-pub fn metadata_number(bytes: &[u8], words: &mut [u64], s: State, name: u64) -> State
-    requires { Sound s }
-    ensures { Met (metadata_number name) bytes.now words.old s tt result words.new }
+pub fn metadata_number(parser: &mut Parser<'_>, name: u64) -> Result<(), Reason>
+    ensures { Met (metadata_number name) parser.old result parser.new }
 {
-    let a = metadata_esc(bytes, words, s, name);
-    a.state
+    tri!(metadata_esc(parser, name));
+    Ok(())
 }
 
 // The second parameter of a component, if it is there.
-fn second_parameter(bytes: &[u8], words: &mut [u64], s: State, q: u64) -> State
-    requires sound { Sound s }
-    requires q_bound { q < 2 ^ 38 }
-    ensures { Met (second_parameter q) bytes.now words.old s tt result words.new }
+fn second_parameter(parser: &mut Parser<'_>, q: u64) -> Result<(), Reason>
+    requires { q < 2 ^ 38 }
+    ensures { Met (second_parameter q) parser.old result parser.new }
 {
-    let a = fields::flag(bytes, words, s, q + leaf::PARAMETER_1_PRESENT);
-    let s1 = a.state;
-    if a.value {
-        return metadata_number(bytes, words, s1, q + leaf::PARAMETER_1);
+    let present = tri!(parser.flag(q + leaf::PARAMETER_1_PRESENT));
+    if present {
+        return metadata_number(parser, q + leaf::PARAMETER_1);
     }
-    s1
+    Ok(())
 }
 
 // Both parameters of a component.
-fn both_parameters(bytes: &[u8], words: &mut [u64], s: State, q: u64) -> State
-    requires sound { Sound s }
-    requires q_bound { q < 2 ^ 38 }
-    ensures { Met (both_parameters q) bytes.now words.old s tt result words.new }
+fn both_parameters(parser: &mut Parser<'_>, q: u64) -> Result<(), Reason>
+    requires { q < 2 ^ 38 }
+    ensures { Met (both_parameters q) parser.old result parser.new }
 {
-    let s1 = metadata_number(bytes, words, s, q + leaf::PARAMETER_0);
-    second_parameter(bytes, words, s1, q)
+    tri!(metadata_number(parser, q + leaf::PARAMETER_0));
+    second_parameter(parser, q)
 }
 
 // The parameters of a component of this type.
-fn component_parameters(bytes: &[u8], words: &mut [u64], s: State, q: u64, of: u64) -> State
-    requires sound { Sound s }
-    requires q_bound { q < 2 ^ 38 }
-    ensures { Met (component_parameters q of) bytes.now words.old s tt result words.new }
+fn component_parameters(parser: &mut Parser<'_>, q: u64, kind: u64) -> Result<(), Reason>
+    requires { q < 2 ^ 38 }
+    ensures { Met (component_parameters q kind) parser.old result parser.new }
 {
-    match of {
-        0 | 2 | 3 => metadata_number(bytes, words, s, q + leaf::PARAMETER_0),
-        1 | 4 => both_parameters(bytes, words, s, q),
-        _ => reader::invalid(s, 16),
+    match kind {
+        0 | 2 | 3 => metadata_number(parser, q + leaf::PARAMETER_0),
+        1 | 4 => both_parameters(parser, q),
+        _ => Err(Reason::ComponentType),
     }
 }
 
 // A component by its index.
-fn component_reference(bytes: &[u8], words: &mut [u64], s: State, q: u64) -> State
-    requires sound { Sound s }
-    requires q_bound { q < 2 ^ 38 }
-    ensures { Met (component_reference q) bytes.now words.old s tt result words.new }
+fn component_reference(parser: &mut Parser<'_>, q: u64) -> Result<(), Reason>
+    requires { q < 2 ^ 38 }
+    ensures { Met (component_reference q) parser.old result parser.new }
 {
-    let s1 = metadata_number(bytes, words, s, q + leaf::COMPONENT_INDEX);
-    let b = fields::take(bytes, words, s1, q + leaf::COMPONENT_TYPE, 3);
-    let s2 = b.state;
-    component_parameters(bytes, words, s2, q, b.value)
+    tri!(metadata_number(parser, q + leaf::COMPONENT_INDEX));
+    let kind = tri!(parser.take(q + leaf::COMPONENT_TYPE, 3));
+    component_parameters(parser, q, kind)
 }
 
 // So many channels by their indices.
-fn each_channel_index(bytes: &[u8], words: &mut [u64], s: State, q: u64, n: u64) -> State
-    requires sound { Sound s }
+fn each_channel_index(parser: &mut Parser<'_>, q: u64, n: u64) -> Result<(), Reason>
     requires q_bound { q < 2 ^ 38 }
     requires n_bound { n < 4097 }
-    ensures { Met (each_channel_index q n) bytes.now words.old s tt result words.new }
+    ensures { Met (each_channel_index q n) parser.old result parser.new }
 {
-    let mut t = s;
-    let mut i: u64 = 0;
-    while i < n && t.is_read() {
-        t = metadata_number(
-            bytes,
-            words,
-            t,
-            q + leaf::CHANNEL_INDICES + Field::THIRD * i,
-        );
-        i += 1;
+    for i in 0..n {
+        tri!(metadata_number(parser, q + leaf::CHANNEL_INDICES + Field::THIRD * i));
     }
-    t
+    Ok(())
 }
 
 // Channels by their indices, if there may be so many.
-fn channel_indices(bytes: &[u8], words: &mut [u64], s: State, q: u64, n: u64) -> State
-    requires sound { Sound s }
-    requires q_bound { q < 2 ^ 38 }
-    ensures { Met (channel_indices q n) bytes.now words.old s tt result words.new }
+fn channel_indices(parser: &mut Parser<'_>, q: u64, n: u64) -> Result<(), Reason>
+    requires { q < 2 ^ 38 }
+    ensures { Met (channel_indices q n) parser.old result parser.new }
 {
-    let m = fields::count(s, n, 4);
-    let s1 = m.state;
-    each_channel_index(bytes, words, s1, q, m.value)
+    let n = tri!(parser.count(n, 4));
+    each_channel_index(parser, q, n)
 }
 
 // The channels of a group.
-fn channels(bytes: &[u8], words: &mut [u64], s: State, q: u64) -> State
-    requires sound { Sound s }
-    requires q_bound { q < 2 ^ 38 }
-    ensures { Met (channels q) bytes.now words.old s tt result words.new }
+fn channels(parser: &mut Parser<'_>, q: u64) -> Result<(), Reason>
+    requires { q < 2 ^ 38 }
+    ensures { Met (channels q) parser.old result parser.new }
 {
-    let n = metadata_esc(bytes, words, s, q + leaf::CHANNEL_COUNT_MINUS_ONE);
-    let s1 = n.state;
-    let a = fields::flag(bytes, words, s1, q + leaf::CONTIGUOUS_CHANNELS);
-    let s2 = a.state;
-    if a.value {
-        return metadata_number(bytes, words, s2, q + leaf::FIRST_CHANNEL);
+    let n = tri!(metadata_esc(parser, q + leaf::CHANNEL_COUNT_MINUS_ONE));
+    let contiguous = tri!(parser.flag(q + leaf::CONTIGUOUS_CHANNELS));
+    if contiguous {
+        return metadata_number(parser, q + leaf::FIRST_CHANNEL);
     }
-    channel_indices(bytes, words, s2, q, n.value + 1)
+    channel_indices(parser, q, n + 1)
 }
 
 // A component: a reference, or channels.
-fn component(bytes: &[u8], words: &mut [u64], s: State, q: u64) -> State
-    requires sound { Sound s }
-    requires q_bound { q < 2 ^ 38 }
-    ensures { Met (component q) bytes.now words.old s tt result words.new }
+fn component(parser: &mut Parser<'_>, q: u64) -> Result<(), Reason>
+    requires { q < 2 ^ 38 }
+    ensures { Met (component q) parser.old result parser.new }
 {
-    let a = fields::flag(bytes, words, s, q + leaf::COMPONENT_REFERENCE);
-    let s1 = a.state;
-    if a.value {
-        return component_reference(bytes, words, s1, q);
+    let reference = tri!(parser.flag(q + leaf::COMPONENT_REFERENCE));
+    if reference {
+        return component_reference(parser, q);
     }
-    channels(bytes, words, s1, q)
+    channels(parser, q)
 }
 
 // A component, unless the group is the default.
-pub fn component_unless_default(bytes: &[u8], words: &mut [u64], s: State, q: u64) -> State
-    requires sound { Sound s }
-    requires q_bound { q < 2 ^ 38 }
-    ensures { Met (component_unless_default q) bytes.now words.old s tt result words.new }
+pub fn component_unless_default(parser: &mut Parser<'_>, q: u64) -> Result<(), Reason>
+    requires { q < 2 ^ 38 }
+    ensures { Met (component_unless_default q) parser.old result parser.new }
 {
-    let a = fields::flag(bytes, words, s, q + leaf::DEFAULT);
-    let s1 = a.state;
-    if a.value {
-        return s1;
+    let default = tri!(parser.flag(q + leaf::DEFAULT));
+    if default {
+        return Ok(());
     }
-    component(bytes, words, s1, q)
+    component(parser, q)
 }

@@ -3,158 +3,122 @@
 #![tactic(auto)]
 
 ghost use Rattle.std.specs.Prelude.{◌≤◌, ◌<◌};
-ghost use Rattle.rules.specs.Met.{Met, Sound};
+ghost use Rattle.parser.specs.Met.{Met};
 ghost use Rattle.configuration.specs.Configuration.{compression, compression_if_present, parameter, each_parameter, parameters, parameters_if_present, data_if_present, group, each_group, groups, parameters_and_groups};
 
-use rules::{Field, State, block, leaf};
+use parser::{Parser, tri};
+use rules::{Field, Reason, block, leaf};
 
 // A compression: its type, its bytes and what they hold.
-fn compression(bytes: &[u8], words: &mut [u64], s: State) -> State
-    requires { Sound s }
-    ensures { Met compression bytes.now words.old s tt result words.new }
+fn compression(parser: &mut Parser<'_>) -> Result<(), Reason>
+    ensures { Met compression parser.old result parser.new }
 {
-    let kind = fields::take(bytes, words, s, block::COMPRESSION + leaf::TYPE, 3);
-    let s1 = kind.state;
-    let size = variable::escaped(
-        bytes,
-        words,
-        s1,
-        block::COMPRESSION + leaf::BYTES,
-        [4, 8, 16],
-    );
-    let s2 = size.state;
-    compression::metadata_compression(bytes, words, s2, kind.value, size.value as usize)
+    let kind = tri!(parser.take(block::COMPRESSION + leaf::TYPE, 3));
+    let size = tri!(parser.escaped(block::COMPRESSION + leaf::BYTES, [4, 8, 16]));
+    compression::metadata_compression(parser, kind, size as usize)
 }
 
 // A compression, if there is one.
-pub fn compression_if_present(bytes: &[u8], words: &mut [u64], s: State) -> State
-    requires { Sound s }
-    ensures { Met compression_if_present bytes.now words.old s tt result words.new }
+pub fn compression_if_present(parser: &mut Parser<'_>) -> Result<(), Reason>
+    ensures { Met compression_if_present parser.old result parser.new }
 {
-    let a = fields::flag(bytes, words, s, block::METADATA + leaf::COMPRESSION_PRESENT);
-    let s1 = a.state;
-    if a.value {
-        return compression(bytes, words, s1);
+    let present = tri!(parser.flag(block::METADATA + leaf::COMPRESSION_PRESENT));
+    if present {
+        return compression(parser);
     }
-    s1
+    Ok(())
 }
 
 // Parameter `i` of the whole configuration.
-fn parameter(bytes: &[u8], words: &mut [u64], s: State, i: u64) -> State
-    requires sound { Sound s }
-    requires i_bound { i < 128 }
-    ensures { Met (parameter i) bytes.now words.old s tt result words.new }
+fn parameter(parser: &mut Parser<'_>, i: u64) -> Result<(), Reason>
+    requires { i < 128 }
+    ensures { Met (parameter i) parser.old result parser.new }
 {
     let p = block::PARAMETERS + Field::FIRST * i;
-    let kind = component::metadata_esc(bytes, words, s, p + leaf::ID);
-    let s1 = kind.state;
-    global::metadata_global_parameter(bytes, words, s1, p, kind.value)
+    let kind = tri!(component::metadata_esc(parser, p + leaf::ID));
+    global::metadata_global_parameter(parser, p, kind)
 }
 
 // So many parameters.
-fn each_parameter(bytes: &[u8], words: &mut [u64], s: State, n: u64) -> State
-    requires sound { Sound s }
-    requires n_bound { n ≤ 128 }
-    ensures { Met (each_parameter n) bytes.now words.old s tt result words.new }
+fn each_parameter(parser: &mut Parser<'_>, n: u64) -> Result<(), Reason>
+    requires { n ≤ 128 }
+    ensures { Met (each_parameter n) parser.old result parser.new }
 {
-    let mut t = s;
-    let mut i: u64 = 0;
-    while i < n && t.is_read() {
-        t = parameter(bytes, words, t, i);
-        i += 1;
+    for i in 0..n {
+        tri!(parameter(parser, i));
     }
-    t
+    Ok(())
 }
 
 // The parameters of the whole configuration, at most 128.
-fn parameters(bytes: &[u8], words: &mut [u64], s: State) -> State
-    requires { Sound s }
-    ensures { Met parameters bytes.now words.old s tt result words.new }
+fn parameters(parser: &mut Parser<'_>) -> Result<(), Reason>
+    ensures { Met parameters parser.old result parser.new }
 {
-    let n = component::metadata_esc(bytes, words, s, block::METADATA + leaf::PARAMETER_COUNT);
-    let s1 = n.state;
-    if State::PARAMETERS < n.value {
-        return reader::invalid(s1, 11);
+    let n = tri!(component::metadata_esc(parser, block::METADATA + leaf::PARAMETER_COUNT));
+    if Parser::PARAMETERS < n {
+        return Err(Reason::TooManyParameters);
     }
-    each_parameter(bytes, words, s1, n.value)
+    each_parameter(parser, n)
 }
 
 // The parameters, if there are any.
-fn parameters_if_present(bytes: &[u8], words: &mut [u64], s: State) -> State
-    requires { Sound s }
-    ensures { Met parameters_if_present bytes.now words.old s tt result words.new }
+fn parameters_if_present(parser: &mut Parser<'_>) -> Result<(), Reason>
+    ensures { Met parameters_if_present parser.old result parser.new }
 {
-    let a = fields::flag(bytes, words, s, block::METADATA + leaf::PARAMETERS_PRESENT);
-    let s1 = a.state;
-    if a.value {
-        return parameters(bytes, words, s1);
+    let present = tri!(parser.flag(block::METADATA + leaf::PARAMETERS_PRESENT));
+    if present {
+        return parameters(parser);
     }
-    s1
+    Ok(())
 }
 
 // The renderer data of group `i`, if there is any.
-fn data_if_present(bytes: &[u8], words: &mut [u64], s: State, i: u64) -> State
-    requires sound { Sound s }
-    requires i_bound { i < 4097 }
-    ensures { Met (data_if_present i) bytes.now words.old s tt result words.new }
+fn data_if_present(parser: &mut Parser<'_>, i: u64) -> Result<(), Reason>
+    requires { i < 4097 }
+    ensures { Met (data_if_present i) parser.old result parser.new }
 {
-    let a = fields::flag(
-        bytes,
-        words,
-        s,
-        block::GROUPS + Field::FIRST * i + leaf::DATA_PRESENT,
-    );
-    let s1 = a.state;
-    if a.value {
-        return renderer::renderer_data(bytes, words, s1, i);
+    let present = tri!(parser.flag(block::GROUPS + Field::FIRST * i + leaf::DATA_PRESENT));
+    if present {
+        return renderer::renderer_data(parser, i);
     }
-    s1
+    Ok(())
 }
 
 // Group `i`.
-fn group(bytes: &[u8], words: &mut [u64], s: State, i: u64) -> State
-    requires sound { Sound s }
-    requires i_bound { i < 4097 }
-    ensures { Met (group i) bytes.now words.old s tt result words.new }
+fn group(parser: &mut Parser<'_>, i: u64) -> Result<(), Reason>
+    requires { i < 4097 }
+    ensures { Met (group i) parser.old result parser.new }
 {
     let q = block::GROUPS + Field::FIRST * i;
-    let s1 = component::metadata_number(bytes, words, s, q + leaf::ID);
-    let s2 = component::component_unless_default(bytes, words, s1, q);
-    data_if_present(bytes, words, s2, i)
+    tri!(component::metadata_number(parser, q + leaf::ID));
+    tri!(component::component_unless_default(parser, q));
+    data_if_present(parser, i)
 }
 
 // So many groups.
-fn each_group(bytes: &[u8], words: &mut [u64], s: State, n: u64) -> State
-    requires sound { Sound s }
-    requires n_bound { n < 4097 }
-    ensures { Met (each_group n) bytes.now words.old s tt result words.new }
+fn each_group(parser: &mut Parser<'_>, n: u64) -> Result<(), Reason>
+    requires { n < 4097 }
+    ensures { Met (each_group n) parser.old result parser.new }
 {
-    let mut t = s;
-    let mut i: u64 = 0;
-    while i < n && t.is_read() {
-        t = group(bytes, words, t, i);
-        i += 1;
+    for i in 0..n {
+        tri!(group(parser, i));
     }
-    t
+    Ok(())
 }
 
 // The groups, if there may be so many.
-fn groups(bytes: &[u8], words: &mut [u64], s: State) -> State
-    requires { Sound s }
-    ensures { Met groups bytes.now words.old s tt result words.new }
+fn groups(parser: &mut Parser<'_>) -> Result<(), Reason>
+    ensures { Met groups parser.old result parser.new }
 {
-    let n = component::metadata_esc(bytes, words, s, block::METADATA + leaf::GROUP_COUNT);
-    let s1 = n.state;
-    let m = fields::count(s1, n.value, 6);
-    let s2 = m.state;
-    each_group(bytes, words, s2, m.value)
+    let n = tri!(component::metadata_esc(parser, block::METADATA + leaf::GROUP_COUNT));
+    let n = tri!(parser.count(n, 6));
+    each_group(parser, n)
 }
 
 // What follows where the configuration is there.
-pub fn parameters_and_groups(bytes: &[u8], words: &mut [u64], s: State) -> State
-    requires { Sound s }
-    ensures { Met parameters_and_groups bytes.now words.old s tt result words.new }
+pub fn parameters_and_groups(parser: &mut Parser<'_>) -> Result<(), Reason>
+    ensures { Met parameters_and_groups parser.old result parser.new }
 {
-    let s1 = parameters_if_present(bytes, words, s);
-    groups(bytes, words, s1)
+    tri!(parameters_if_present(parser));
+    groups(parser)
 }

@@ -2,10 +2,11 @@
 #![tactic(auto)]
 
 ghost use Rattle.std.specs.Prelude.{◌≡◌, ◌≤◌, ◌<◌, ◌^◌};
-ghost use Rattle.rules.specs.Met.{Met, Sound};
+ghost use Rattle.parser.specs.Met.{Met};
 ghost use Rattle.coordinates.specs.Coordinates.{width_of, bases, how_many, widths_of, coordinate_values};
 
-use rules::{Field, State, leaf};
+use parser::Parser;
+use rules::{Field, Reason, leaf};
 
 // A width: four bits narrower in a delta.
 pub fn width(base: usize, precision: usize, delta: bool) -> usize
@@ -25,52 +26,38 @@ fn widths(polar: bool, precision: usize, delta: bool) -> [usize; 3]
     ensures { result ≡ widths_of (bases polar) precision delta }
 {
     if polar {
-        let a = width(7, precision, delta);
-        let b = width(6, precision, delta);
-        let c = width(5, precision, delta);
-        return [a, b, c];
+        return [
+            width(7, precision, delta),
+            width(6, precision, delta),
+            width(5, precision, delta),
+        ];
     }
-    let a = width(6, precision, delta);
-    [a; 3]
+    [width(6, precision, delta); 3]
 }
 
 // How many of them are read.
 fn how_many(polar: bool, precision: usize, delta: bool) -> usize
     ensures { result ≡ how_many polar precision delta }
 {
-    if delta {
-        if polar {
-            if precision == 0 {
-                return 2;
-            }
-        }
+    if delta && polar && precision == 0 {
+        return 2;
     }
     3
 }
 
 // The coordinates.
 pub fn coordinate_values(
-    bytes: &[u8],
-    words: &mut [u64],
-    s: State,
+    parser: &mut Parser<'_>,
     p: u64,
     polar: bool,
     precision: usize,
     delta: bool,
-) -> State
-    requires sound { Sound s }
+) -> Result<(), Reason>
     requires precision_bound { precision ≤ 24 }
     requires p_bound { p < 2 ^ 38 }
-    ensures { Met (coordinate_values p polar precision delta) bytes.now words.old s tt result words.new }
+    ensures { Met (coordinate_values p polar precision delta) parser.old result parser.new }
 {
     let all = widths(polar, precision, delta);
-    let n = how_many(polar, precision, delta);
-    fields::passive_values(
-        bytes,
-        words,
-        s,
-        p + leaf::POSITION_ENCODED,
-        Field::THIRD,
-        &all[..n],
-    )
+    let count = how_many(polar, precision, delta);
+    parser.passive_values(p + leaf::POSITION_ENCODED, Field::THIRD, &all[..count])
 }

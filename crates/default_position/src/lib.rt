@@ -3,19 +3,19 @@
 #![tactic(auto)]
 
 ghost use Rattle.std.specs.Prelude.{◌<◌, ◌^◌};
-ghost use Rattle.rules.specs.Met.{Met, Sound};
+ghost use Rattle.parser.specs.Met.{Met};
 ghost use Rattle.default_position.specs.DefaultPosition.{default_position};
 
+use parser::{Parser, tri};
 use position::PositionSyntax;
-use rules::State;
+use rules::Reason;
 
 // A full position, whose shape is of no use here.
-pub fn default_position(bytes: &[u8], words: &mut [u64], s: State, p: u64) -> State
-    requires sound { Sound s }
-    requires p_bound { p < 2 ^ 38 }
-    ensures { Met (default_position p) bytes.now words.old s tt result words.new }
+pub fn default_position(parser: &mut Parser<'_>, p: u64) -> Result<(), Reason>
+    requires { p < 2 ^ 38 }
+    ensures { Met (default_position p) parser.old result parser.new }
 {
     let shape = PositionSyntax::default();
-    let a = position::position(bytes, words, s, p, shape, true);
-    a.state
+    tri!(position::position(parser, p, shape, true));
+    Ok(())
 }

@@ -4,10 +4,10 @@ use mathlib.Core.Path.{◌≡◌}
 use mathlib.Core.List.{List, ◌++◌}
 use native.Mathlib.Omega.{arith}
 use lib.ListN.{length}
+use Rattle.std.specs.Prelude.{Option}
 use Rattle.rules.specs.declared.Field.{Field}
 use Rattle.rules.specs.declared.FieldValue.{FieldValue}
 use Rattle.rules.specs.declared.FieldValue.TheVariants.{Flag, Number, Bits, Bytes}
-use Rattle.rules.specs.declared.Found.{Found}
 use Rattle.rules.specs.Words.{number_of, field_at}
 use Rattle.text.specs.Text.{ascii, decimal, newline, Lined}
 use Rattle.text.proofs.Decimal.{decimal_most}
@@ -35,7 +35,7 @@ field_most f h =
     omega arith
 
 -- The line of what was found in the words is that of their field.
-pub line_of_found : (ws : List ℕ) (i : ℕ) {found : Found} {before after : List ℕ} {to : ℕ} → found ≡ field_at ws i → Lined before (found_line found) to after →
+pub line_of_found : (ws : List ℕ) (i : ℕ) {found : Option Field} {before after : List ℕ} {to : ℕ} → found ≡ field_at ws i → Lined before (found_line found) to after →
     Lined before (line_at ws i) to after
 unfolding line_at
 line_of_found ws i e l = rw (← e) l

@@ -8,7 +8,7 @@ ghost use Rattle.name_words.specs.NameText.{known, name_text};
 ghost use Rattle.field_text.specs.FieldText.{value_text};
 ghost use Rattle.field_lines.specs.FieldLine.{field_line, line_at};
 
-use rules::{Field, FieldValue, Found};
+use rules::{Field, FieldValue};
 
 // Puts a name, which ends the line.
 fn put_name(out: &mut [u8], at: usize, name: u64) -> usize
@@ -52,9 +52,8 @@ fn known_line(field: Field, line: &mut [u8; text::LINE]) -> usize
 pub fn field_line(words: &[u64], i: usize, line: &mut [u8; text::LINE]) -> usize
     ensures { Lined line.old (line_at words.now i) result line.new }
 {
-    let found = Field::at(words, i);
-    match found {
-        Found::Field(field) => known_line(field, line),
-        Found::Nothing => 0,
+    match Field::at(words, i) {
+        Some(field) => known_line(field, line),
+        None => 0,
     }
 }

@@ -3,73 +3,65 @@
 #![tactic(auto)]
 
 ghost use Rattle.std.specs.Prelude.{◌≤◌, ◌<◌, ◌^◌};
-ghost use Rattle.rules.specs.Met.{Met, MetByWords, Sound};
+ghost use Rattle.parser.specs.Met.{Met};
 ghost use Rattle.headphones.specs.Headphones.{channels, padding, padded_channels, headphone_channels, headphones};
 
-use rules::{Field, State, leaf};
+use parser::{Parser, tri};
+use rules::{Field, Reason, leaf};
 
 // Kind 15: so many headphone channels.
-fn channels(bytes: &[u8], words: &mut [u64], s: State, p: u64, n: u64) -> State
-    requires sound { Sound s }
+fn channels(parser: &mut Parser<'_>, p: u64, n: u64) -> Result<(), Reason>
     requires p_bound { p < 2 ^ 38 }
     requires n_bound { n ≤ 256 }
-    ensures { Met (channels p n) bytes.now words.old s tt result words.new }
+    ensures { Met (channels p n) parser.old result parser.new }
 {
-    let mut t = s;
-    let mut i: u64 = 0;
-    while i < n && t.is_read() {
-        t = common::number(bytes, words, t, p + leaf::CHANNELS + Field::THIRD * i, 3);
-        i += 1;
+    for i in 0..n {
+        tri!(common::number(parser, p + leaf::CHANNELS + Field::THIRD * i, 3));
     }
-    t
+    Ok(())
 }
 
 // Padding up to bit `end`.
-fn padding(words: &mut [u64], s: State, p: u64, end: usize) -> State
-    requires sound { Sound s }
-    requires p_bound { p < 2 ^ 38 }
-    ensures { MetByWords (padding p end) words.old s tt result words.new }
+fn padding(parser: &mut Parser<'_>, p: u64, end: usize) -> Result<(), Reason>
+    requires { p < 2 ^ 38 }
+    ensures { Met (padding p end) parser.old result parser.new }
 {
-    let at = s.position;
-    if end <= at {
-        return s;
+    let position = parser.position();
+    if end <= position {
+        return Ok(());
     }
-    variable::passive_bits(words, s, p + leaf::PADDING, end - at)
+    parser.passive_bits(p + leaf::PADDING, end - position)
 }
 
 // Channels, and padding up to bit `end`.
-fn padded_channels(bytes: &[u8], words: &mut [u64], s: State, p: u64, n: u64, end: usize) -> State
-    requires sound { Sound s }
+fn padded_channels(parser: &mut Parser<'_>, p: u64, n: u64, end: usize) -> Result<(), Reason>
     requires p_bound { p < 2 ^ 38 }
     requires n_bound { n ≤ 256 }
-    ensures { Met (padded_channels p n end) bytes.now words.old s tt result words.new }
+    ensures { Met (padded_channels p n end) parser.old result parser.new }
 {
-    let s1 = channels(bytes, words, s, p, n);
-    padding(words, s1, p, end)
+    tri!(channels(parser, p, n));
+    padding(parser, p, end)
 }
 
 // Channels that have `bits` bits, of which the first are their count.
-fn headphone_channels(bytes: &[u8], words: &mut [u64], s: State, p: u64, bits: usize) -> State
-    requires sound { Sound s }
+fn headphone_channels(parser: &mut Parser<'_>, p: u64, bits: usize) -> Result<(), Reason>
     requires p_bound { p < 2 ^ 38 }
     requires bits_bound { bits ≤ 128 }
-    ensures { Met (headphone_channels p bits) bytes.now words.old s tt result words.new }
+    ensures { Met (headphone_channels p bits) parser.old result parser.new }
 {
-    let n = fields::take(bytes, words, s, p + leaf::CHANNELS_MINUS_ONE, 8);
-    let s1 = n.state;
-    if bits < (n.value as usize + 1) * 3 + 8 {
-        return reader::invalid(s1, 18);
+    let start = parser.position();
+    let n = tri!(parser.take(p + leaf::CHANNELS_MINUS_ONE, 8)) + 1;
+    if bits < n as usize * 3 + 8 {
+        return Err(Reason::HeadphoneBytes);
     }
-    padded_channels(bytes, words, s1, p, n.value + 1, s.position + bits)
+    padded_channels(parser, p, n, start + bits)
 }
 
 // Headphone channels in as many bytes as it says.
-pub fn headphones(bytes: &[u8], words: &mut [u64], s: State, p: u64) -> State
-    requires sound { Sound s }
-    requires p_bound { p < 2 ^ 38 }
-    ensures { Met (headphones p) bytes.now words.old s tt result words.new }
+pub fn headphones(parser: &mut Parser<'_>, p: u64) -> Result<(), Reason>
+    requires { p < 2 ^ 38 }
+    ensures { Met (headphones p) parser.old result parser.new }
 {
-    let n = fields::take(bytes, words, s, p + leaf::BYTES_MINUS_ONE, 4);
-    let s1 = n.state;
-    headphone_channels(bytes, words, s1, p, (n.value as usize + 1) * 8)
+    let n = tri!(parser.take(p + leaf::BYTES_MINUS_ONE, 4));
+    headphone_channels(parser, p, (n as usize + 1) * 8)
 }

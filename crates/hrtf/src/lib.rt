@@ -3,52 +3,41 @@
 #![tactic(auto)]
 
 ghost use Rattle.std.specs.Prelude.{◌<◌, ◌^◌};
-ghost use Rattle.rules.specs.Met.{Met, Sound};
+ghost use Rattle.parser.specs.Met.{Met};
 ghost use Rattle.hrtf.specs.Hrtf.{hrtf_resource, hrtf_type, hrtf};
 
-use rules::{State, leaf};
+use parser::{Parser, tri};
+use rules::{Reason, leaf};
 
 // Kind 7, type 2: a resource, which is stopped after its mode.
-fn hrtf_resource(bytes: &[u8], words: &mut [u64], s: State, p: u64) -> State
-    requires sound { Sound s }
-    requires p_bound { p < 2 ^ 38 }
-    ensures { Met (hrtf_resource p) bytes.now words.old s tt result words.new }
+fn hrtf_resource(parser: &mut Parser<'_>, p: u64) -> Result<(), Reason>
+    requires { p < 2 ^ 38 }
+    ensures { Met (hrtf_resource p) parser.old result parser.new }
 {
-    let s1 = common::metadata_resource(bytes, words, s, p + leaf::RESOURCE);
-    let a = fields::take(bytes, words, s1, p + leaf::MODE, 3);
-    let s2 = a.state;
-    reader::stop(s2, 33)
+    tri!(common::metadata_resource(parser, p + leaf::RESOURCE));
+    tri!(parser.take(p + leaf::MODE, 3));
+    Err(Reason::HrtfType2)
 }
 
 // What follows the type.
-fn hrtf_type(bytes: &[u8], words: &mut [u64], s: State, p: u64, of: u64) -> State
-    requires sound { Sound s }
-    requires p_bound { p < 2 ^ 38 }
-    ensures { Met (hrtf_type p of) bytes.now words.old s tt result words.new }
+fn hrtf_type(parser: &mut Parser<'_>, p: u64, kind: u64) -> Result<(), Reason>
+    requires { p < 2 ^ 38 }
+    ensures { Met (hrtf_type p kind) parser.old result parser.new }
 {
-    match of {
-        0 => s,
-        1 => common::number(bytes, words, s, p + leaf::INDEX, 8),
-        2 => hrtf_resource(bytes, words, s, p),
-        _ => reader::stop(s, 34),
+    match kind {
+        0 => Ok(()),
+        1 => common::number(parser, p + leaf::INDEX, 8),
+        2 => hrtf_resource(parser, p),
+        _ => Err(Reason::HrtfType),
     }
 }
 
 // A head-related transfer function.
-pub fn hrtf(bytes: &[u8], words: &mut [u64], s: State, p: u64) -> State
-    requires sound { Sound s }
-    requires p_bound { p < 2 ^ 38 }
-    ensures { Met (hrtf p) bytes.now words.old s tt result words.new }
+pub fn hrtf(parser: &mut Parser<'_>, p: u64) -> Result<(), Reason>
+    requires { p < 2 ^ 38 }
+    ensures { Met (hrtf p) parser.old result parser.new }
 {
-    let s1 = common::number_if(
-        bytes,
-        words,
-        s,
-        p + leaf::VALUE_PRESENT,
-        p + leaf::VALUE_ENCODED,
-        32,
-    );
-    let a = fields::take(bytes, words, s1, p + leaf::TYPE, 3);
-    let s2 = a.state;
-    hrtf_type(bytes, words, s2, p, a.value)
+    tri!(common::number_if(parser, p + leaf::VALUE_PRESENT, p + leaf::VALUE_ENCODED, 32));
+    let kind = tri!(parser.take(p + leaf::TYPE, 3));
+    hrtf_type(parser, p, kind)
 }

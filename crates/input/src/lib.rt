@@ -1,52 +1,86 @@
-// Standard input, or what any reader gives, read into lent bytes; and the reason of a failed read or write, in words.
+// Standard input, or what any reader gives, read into lent bytes or into a list; and a failure told on standard error.
 #![tactic(auto)]
 
-ghost use Rattle.std.specs.Prelude.{◌≡◌, ◌≤◌, length, take};
+ghost use Rattle.std.specs.Prelude.{◌≡◌, ◌≤◌, length, take, IfOk, IfErr, IfSome, OnOk};
 
-use std::alloc::{AllocError, Global};
+use std::alloc::Global;
+use std::fmt::Display;
 use std::io::{self, Read};
+use std::process::ExitCode;
 
-// How many bytes were read, up to the end of the input or of the bytes that were lent, and the error of a read that failed.
-#[derive(Clone, Copy)]
-pub struct Input {
-    pub length: usize,
-    pub failed: Option<io::Error>,
-}
-
-// Reads until the input ends, the bytes are full or a read fails.
-pub fn read_input<R: Read>(reader: &mut R, bytes: &mut [u8]) -> Input
-    ensures in_bounds { result.length ≤ length bytes.new }
-    ensures prefix { result.length ≡ length (take result.length bytes.new) }
+// Reads until the input ends or the bytes are full, and gives how many were read.
+pub fn read_input<R: Read>(reader: &mut R, bytes: &mut [u8]) -> io::Result<usize>
+    ensures in_bounds { IfOk result (λ n. n ≤ length bytes.new) }
+    ensures prefix { IfOk result (λ n. n ≡ length (take n bytes.new)) }
 {
     let mut length = 0;
     while length < bytes.len() {
-        match reader.read(&mut bytes[length..]) {
-            Err(error) => {
-                return Input {
-                    length,
-                    failed: Some(error),
-                };
-            }
-            Ok(more) => {
-                if more == 0 {
-                    break;
-                }
-                length += more;
-            }
+        let more = reader.read(&mut bytes[length..])?;
+        if more == 0 {
+            break;
         }
+        length += more;
     }
-    Input {
-        length,
-        failed: None,
+    Ok(length)
+}
+
+// What the reader gives up to its end, or the first `most` bytes of it.
+pub fn first_bytes<R: Read + Drop>(alloc: Global, reader: R, most: u64) -> io::Result<Vec<u8>>
+    ensures { IfOk result (λ v. IfSome (R.remaining reader) (λ bytes. v.items ≡ take most bytes)) }
+{
+    let mut bytes = Vec::new(alloc);
+    reader.take(most).read_to_end(&mut bytes)?;
+    Ok(bytes)
+}
+
+// Reports on standard error what failed, where the system tells it in its words alone, without its number.
+fn report<R: Eprint + AllocGlobal>(rt: &R, failure: impl Display + Drop) -> io::Result<()> {
+    let line = format!(in rt.alloc(); "{failure}")?;
+    match line.as_str().split_once(" (os error ") {
+        Some((words, _)) => eprintln!(rt; "{words}"),
+        None => eprintln!(rt; "{line}"),
     }
 }
 
-// Why a read or a write failed, in the system's words alone, without its number.
-pub fn reason(alloc: Global, error: io::Error) -> Result<String, AllocError> {
-    let text = format!(in alloc; "{error}")?;
-    let words = text.as_str();
-    match words.split_once(" (os error ") {
-        Some((told, _)) => String::from_str(alloc, told),
-        None => String::from_str(alloc, words),
+// The exit status of a program that ended so, which reports what failed.
+pub fn exit_code<R, F>(rt: &R, ended: Result<(), F>) -> ExitCode
+where
+    R: Eprint + AllocGlobal,
+    F: Display + Drop + Copy + Into<ExitCode>,
+    ensures ok { OnOk ended (result ≡ ExitCode.SUCCESS) }
+    ensures err { IfErr ended (λ failure. F.converts failure result) }
+{
+    match ended {
+        Ok(()) => ExitCode::SUCCESS,
+        Err(failure) => {
+            let _ = report(rt, failure);
+            failure.into()
+        }
+    }
+}
+
+#[cfg(test)]
+mod tests {
+    use super::*;
+    use std::test::Fail;
+
+    #[test]
+    fn reads_what_there_is(rt: HostRuntime) -> Result<(), Fail> {
+        let bytes = first_bytes(rt.alloc(), b"short".as_slice(), 6)?;
+        assert_eq!(rt; bytes.as_slice(), b"short".as_slice());
+        Ok(())
+    }
+
+    #[test]
+    fn reads_no_more_than_asked_for(rt: HostRuntime) -> Result<(), Fail> {
+        let bytes = first_bytes(rt.alloc(), b"longer".as_slice(), 4)?;
+        assert_eq!(rt; bytes.as_slice(), b"long".as_slice());
+        Ok(())
+    }
+
+    #[test]
+    fn reports(rt: HostRuntime) -> Result<(), Fail> {
+        report(&rt, io::Error::from_raw_os_error(21))?;
+        Ok(())
     }
 }

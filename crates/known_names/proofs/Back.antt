@@ -5,9 +5,9 @@ use mathlib.Core.List.{List, [], ◌∷◌, ◌++◌}
 use mathlib.Core.Bool.{Bool, true}
 use native.Mathlib.Omega.{arith}
 use lib.ListN.{length, length-take, take}
+use Rattle.std.specs.Prelude.{Some}
 use Rattle.rules.specs.declared.Answer.{Answer}
 use Rattle.rules.specs.declared.Field.{Field}
-use Rattle.rules.specs.declared.Found.TheVariants as Found
 use Rattle.rules.specs.Rule.{Rule}
 use Rattle.rules.specs.Words.{recorded, field_at}
 use Rattle.rules.specs.Answer.{input_of, entry_reading, Answered}
@@ -53,7 +53,7 @@ among (suc n) (f ∷ fs) a h =
 
 -- it is read back from the words that hold them all
 pub stands : (ws vs : List ℕ) (before : List Field) (f : Field) (after fs : List Field) (n : ℕ) → fs ≡ before ++ f ∷ after → 0 + length before ≡ n →
-    5 * length fs ≤ length ws → vs ≡ recorded true ws 0 fs → field_at vs n ≡ Found.Field f
+    5 * length fs ≤ length ws → vs ≡ recorded true ws 0 fs → field_at vs n ≡ Some f
 stands ws vs before f after fs n same place room words = rw (words, same, ← place) (field_back ws 0 before f after (let fit = rw same at room in omega arith))
 
 -- of every call whose promise is `Answered`, of a reading whose names are known

@@ -1,9 +1,8 @@
 -- Names that are known: the table has a row for the block and for the leaf, and the indices are in their range. And, by the same
 -- law over rules, numbers that have words.
-use Rattle.std.specs.Prelude.{ℕ, ◌<◌, ◌≡◌, List, true}
+use Rattle.std.specs.Prelude.{ℕ, ◌<◌, ◌≡◌, Some, List, true}
 use Rattle.rules.specs.declared.Answer.{Answer}
 use Rattle.rules.specs.declared.Field.{Field}
-use Rattle.rules.specs.declared.Found.TheVariants as Found
 use Rattle.rules.specs.declared.Outcome.{Outcome}
 use Rattle.rules.specs.declared.Outcome.TheVariants.{Refused, Stopped}
 use Rattle.rules.specs.Rule.{Rule}
@@ -27,7 +26,7 @@ AllKnown x = Told Known HasWords x
 -- of the field that the words of a call hold in place `n`, read back as `Field::at` does
 pub record ReadBackKnown (words : List ℕ) (n : ℕ) : Type 0 where
   pub field : Field
-  pub there : field_at words n ≡ Found.Field field
+  pub there : field_at words n ≡ Some field
   pub is_known : Known field.name
 
 -- of every field that a call has counted and recorded

@@ -8,11 +8,11 @@ use native.Mathlib.Nat.{add-zero}
 use borrow.Author.Tests.{le-leb}
 use lib.ListN.{length, get_or, take, drop, length-append}
 use lib.Seq.{get_or-append-add, length-take-le}
+use Rattle.std.specs.Prelude.{Some}
 use Rattle.rules.specs.declared.Field.{Field}
 use Rattle.rules.specs.declared.FieldValue.{FieldValue}
 use Rattle.rules.specs.declared.FieldValue.TheVariants.{Flag, Number, Bits, Bytes}
 use Rattle.rules.specs.Words.{kind_of, number_of, words_of, encoded, recorded, is_value, value_from, field_at}
-use Rattle.rules.specs.declared.Found.TheVariants as Found
 use Rattle.rules.proofs.Words.{encoded_append, encoded_length}
 use Rattle.laws.proofs.Front.{recorded_front}
 
@@ -31,7 +31,7 @@ value_back (Bits n) = refl
 value_back (Bytes n) = refl
 
 -- the field in the middle of words
-field_in : (xs ys : List ℕ) (f : Field) (i : ℕ) → length xs ≡ 5 * i → field_at (xs ++ (words_of f ++ ys)) i ≡ Found.Field f
+field_in : (xs ys : List ℕ) (f : Field) (i : ℕ) → length xs ≡ 5 * i → field_at (xs ++ (words_of f ++ ys)) i ≡ Some f
 unfolding field_at
 field_in xs ys f i h =
     let at : (j : ℕ) → get_or (xs ++ (words_of f ++ ys)) (5 * i + j) 0 ≡ get_or (words_of f ++ ys) j 0 = (λ j. rw (← h) (get_or-append-add xs _ j 0)) in
@@ -40,7 +40,7 @@ field_in xs ys f i h =
     rw (le-leb _ _ room, first, at 1, at 2, at 3, at 4, is_value_lem f.value, value_back f.value)
 
 pub field_back : (ws : List ℕ) (n : ℕ) (fs : List Field) (f : Field) (gs : List Field) → 5 * (n + length (fs ++ f ∷ gs)) ≤ length ws →
-    field_at (recorded true ws n (fs ++ f ∷ gs)) (n + length fs) ≡ Found.Field f
+    field_at (recorded true ws n (fs ++ f ∷ gs)) (n + length fs) ≡ Some f
 unfolding encoded
 field_back ws n fs f gs h =
     let xs : List ℕ = take (5 * n) ws ++ encoded fs in

@@ -1,5 +1,4 @@
--- A shape of a list, whatever stands past its end; and the loops that copy shapes: one list has the first `i` of another,
--- and at the end all of them.
+-- The loops that copy shapes: one list has the first `i` of another, and at the end all of them.
 use Prim.Native.Nat.{ℕ, zero, suc, ◌+◌, ◌<◌}
 use mathlib.Core.Path.{◌≡◌, refl, sym, ◌∙◌, ap}
 use mathlib.Core.List.{List, [], ◌∷◌, ◌++◌}
@@ -7,11 +6,6 @@ use native.Mathlib.Numerals.{add-one}
 use native.Mathlib.Omega.{arith}
 use lib.ListN.{length, take, get_or, set}
 use lib.Seq.{take-suc, take-suc-set, take-length}
-
-pub get_d_within : {A : Type 0} (xs : List A) (i : ℕ) (c d : A) → i < length xs → get_or xs i c ≡ get_or xs i d
-get_d_within [] i c d h = absurd (omega arith)
-get_d_within (x ∷ xs) zero c d h = refl
-get_d_within (x ∷ xs) (suc i) c d h = get_d_within xs i c d (omega arith)
 
 module _ {A : Type 0} (xs ys : List A) where
   pub one_more : (i : ℕ) (d : A) → i < length xs → i < length ys → take i xs ≡ take i ys → take (i + 1) (set xs i (get_or ys i d)) ≡ take (i + 1) ys

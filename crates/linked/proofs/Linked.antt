@@ -11,10 +11,7 @@ use prog.Routine.{Env}
 use prog.Wired.{Code, Wired}
 use Rattle.bits.proofs.Linked as in_bits
 use Rattle.rules.proofs.Linked as in_rules
-use Rattle.reader.proofs.Linked as in_reader
-use Rattle.record.proofs.Linked as in_record
-use Rattle.fields.proofs.Linked as in_fields
-use Rattle.variable.proofs.Linked as in_variable
+use Rattle.parser.proofs.Linked as in_parser
 use Rattle.extensions.proofs.Linked as in_extensions
 use Rattle.coordinates.proofs.Linked as in_coordinates
 use Rattle.position.proofs.Linked as in_position
@@ -100,89 +97,77 @@ infixr 4 ◌&◌
 pub linked : (γ : Env) × HasAllCode γ
 linked =
     let W : program.World =
-    (codes "bits", _) ∷ (codes "rules", _) ∷ (codes "reader", _) ∷ (codes "record", _) ∷ (codes "fields", _) ∷ (codes "variable", _) ∷
-    (codes "extensions", _) ∷ (codes "coordinates", _) ∷ (codes "position", _) ∷ (codes "position_alone", _) ∷ (codes "ranks", _) ∷
-    (codes "validation", _) ∷ (codes "positions", _) ∷ (codes "scene", _) ∷ (codes "update", _) ∷ (codes "lent", _) ∷
-    (codes "probability", _) ∷ (codes "code_tables", _) ∷ (codes "lzw", _) ∷ (codes "compression", _) ∷ (codes "common", _) ∷
-    (codes "default_position", _) ∷ (codes "bands", _) ∷ (codes "radiation", _) ∷ (codes "matrix", _) ∷ (codes "scene_reverb", _) ∷
-    (codes "renderer_kinds", _) ∷ (codes "renderer", _) ∷ (codes "headphones", _) ∷ (codes "hrtf", _) ∷ (codes "speakers", _) ∷
-    (codes "global", _) ∷ (codes "component", _) ∷ (codes "configuration", _) ∷ (codes "metadata", _) ∷ (codes "text", _) ∷
-    (codes "name_table", _) ∷ (codes "name_row", _) ∷ (codes "name_words", _) ∷ (codes "numbers", _) ∷ (codes "field_text", _) ∷
-    (codes "field_lines", _) ∷ (codes "outcome_lines", _) ∷ (codes "exported", _) ∷ (codes "gateway", _) ∷ (codes "show_header", _) ∷
-    (codes "show_parts", _) ∷ (codes "show_lines", _) ∷ (codes "show", _) ∷ (codes "part", _) ∷ [] in
+    (codes "bits", _) ∷ (codes "rules", _) ∷ (codes "parser", _) ∷ (codes "extensions", _) ∷ (codes "coordinates", _) ∷
+    (codes "position", _) ∷ (codes "position_alone", _) ∷ (codes "ranks", _) ∷ (codes "validation", _) ∷ (codes "positions", _) ∷
+    (codes "scene", _) ∷ (codes "update", _) ∷ (codes "lent", _) ∷ (codes "probability", _) ∷ (codes "code_tables", _) ∷
+    (codes "lzw", _) ∷ (codes "compression", _) ∷ (codes "common", _) ∷ (codes "default_position", _) ∷ (codes "bands", _) ∷
+    (codes "radiation", _) ∷ (codes "matrix", _) ∷ (codes "scene_reverb", _) ∷ (codes "renderer_kinds", _) ∷ (codes "renderer", _) ∷
+    (codes "headphones", _) ∷ (codes "hrtf", _) ∷ (codes "speakers", _) ∷ (codes "global", _) ∷ (codes "component", _) ∷
+    (codes "configuration", _) ∷ (codes "metadata", _) ∷ (codes "text", _) ∷ (codes "name_table", _) ∷ (codes "name_row", _) ∷
+    (codes "name_words", _) ∷ (codes "numbers", _) ∷ (codes "field_text", _) ∷ (codes "field_lines", _) ∷
+    (codes "outcome_lines", _) ∷ (codes "exported", _) ∷ (codes "gateway", _) ∷ (codes "show_header", _) ∷ (codes "show_parts", _) ∷
+    (codes "show_lines", _) ∷ (codes "show", _) ∷ (codes "part", _) ∷ [] in
     let bits_read = in_bits.read W refl tt in
     let rules_field_at = in_rules.field_at W refl tt in
     let rules_field_value_kind = in_rules.field_value_kind W refl tt in
     let rules_field_value_number = in_rules.field_value_number W refl tt in
     let rules_outcome_is_read = in_rules.outcome_is_read W refl tt in
-    let rules_state_answer = in_rules.state_answer W refl tt in
-    let rules_state_ended = in_rules.state_ended W refl tt in
-    let rules_state_fresh = in_rules.state_fresh W refl tt in
-    let rules_state_is_read = in_rules.state_is_read W refl tt in
-    let rules_state_moved = in_rules.state_moved W refl tt in
-    let reader_below = bits_read & rules_state_ended & rules_state_is_read & rules_state_moved & tt in
-    let reader_demand = in_reader.demand W refl reader_below in
-    let reader_entry = in_reader.entry W refl reader_below in
-    let reader_invalid = in_reader.invalid W refl reader_below in
-    let reader_read = in_reader.read W refl reader_below in
-    let reader_set_end = in_reader.set_end W refl reader_below in
-    let reader_skip = in_reader.skip W refl reader_below in
-    let reader_stop = in_reader.stop W refl reader_below in
-    let record_field = in_record.field W refl
-    (rules_field_value_kind & rules_field_value_number & rules_state_ended & rules_state_is_read & rules_state_moved & tt) in
-    let fields_below = reader_invalid & reader_read & record_field & tt in
-    let fields_count = in_fields.count W refl fields_below in
-    let fields_drc_count = in_fields.drc_count W refl fields_below in
-    let fields_flag = in_fields.flag W refl fields_below in
-    let fields_number = in_fields.number W refl fields_below in
-    let fields_passive_values = in_fields.passive_values W refl fields_below in
-    let fields_take = in_fields.take W refl fields_below in
-    let variable_below = fields_number & reader_invalid & reader_read & reader_skip & record_field & tt in
-    let variable_escaped = in_variable.escaped W refl variable_below in
-    let variable_label = in_variable.label W refl variable_below in
-    let variable_passive_bits = in_variable.passive_bits W refl variable_below in
-    let extensions_extensions_if_present = in_extensions.extensions_if_present W refl
-    (fields_flag & fields_take & reader_invalid & variable_passive_bits & tt) in
-    let coordinates_below = fields_passive_values & tt in
+    let rules_outcome_from_reason = in_rules.outcome_from_reason W refl tt in
+    let parser_below = bits_read & rules_field_value_kind & rules_field_value_number & tt in
+    let parser_answer = in_parser.parser_answer W refl parser_below in
+    let parser_count = in_parser.parser_count W refl parser_below in
+    let parser_drc_count = in_parser.parser_drc_count W refl parser_below in
+    let parser_end = in_parser.parser_end W refl parser_below in
+    let parser_entry = in_parser.parser_entry W refl parser_below in
+    let parser_escaped = in_parser.parser_escaped W refl parser_below in
+    let parser_flag = in_parser.parser_flag W refl parser_below in
+    let parser_label = in_parser.parser_label W refl parser_below in
+    let parser_new = in_parser.parser_new W refl parser_below in
+    let parser_passive_bits = in_parser.parser_passive_bits W refl parser_below in
+    let parser_passive_values = in_parser.parser_passive_values W refl parser_below in
+    let parser_position = in_parser.parser_position W refl parser_below in
+    let parser_set_end = in_parser.parser_set_end W refl parser_below in
+    let parser_take = in_parser.parser_take W refl parser_below in
+    let extensions_if_present = in_extensions.extensions_if_present W refl (parser_flag & parser_passive_bits & parser_take & tt) in
+    let coordinates_below = parser_passive_values & tt in
     let coordinates_coordinate_values = in_coordinates.coordinate_values W refl coordinates_below in
     let coordinates_width = in_coordinates.width W refl coordinates_below in
     let position_below =
-    coordinates_coordinate_values & coordinates_width & extensions_extensions_if_present & fields_flag & fields_passive_values &
-    fields_take & tt in
+    coordinates_coordinate_values & coordinates_width & extensions_if_present & parser_flag & parser_passive_values & parser_take &
+    tt in
+    let position_syntax_default = in_position.position_syntax_default W refl position_below in
+    let position_syntax_is_shaped = in_position.position_syntax_is_shaped W refl position_below in
     let position_position = in_position.position W refl position_below in
-    let position_position_syntax_default = in_position.position_syntax_default W refl position_below in
-    let position_position_syntax_is_shaped = in_position.position_syntax_is_shaped W refl position_below in
     let position_alone_read_position = in_position_alone.read_position W refl
-    (position_position_syntax_is_shaped & position_position & reader_entry & rules_state_answer & rules_state_fresh &
-    rules_state_is_read & tt) in
+    (parser_answer & parser_entry & parser_new & position_syntax_is_shaped & position_position & rules_outcome_from_reason & tt) in
     let ranks_judge = in_ranks.judge W refl tt in
     let ranks_rank = in_ranks.rank W refl tt in
-    let validation_below = ranks_judge & reader_demand & rules_state_is_read & tt in
+    let validation_below = ranks_judge & rules_outcome_from_reason & tt in
     let validation_parents_of = in_validation.parents_of W refl validation_below in
-    let validation_validate_graph = in_validation.validate_graph W refl validation_below in
+    let validation_validate = in_validation.validate W refl validation_below in
     let validation_validated = in_validation.validated W refl validation_below in
-    let positions_positions = in_positions.positions W refl (fields_flag & position_position & rules_state_is_read & tt) in
+    let positions_positions = in_positions.positions W refl (parser_flag & position_position & tt) in
     let scene_read_scene = in_scene.read_scene W refl
-    (fields_drc_count & position_position_syntax_default & positions_positions & reader_entry & rules_state_answer & rules_state_fresh
-    & rules_state_is_read & validation_validated & tt) in
+    (parser_answer & parser_drc_count & parser_entry & parser_new & position_syntax_default & positions_positions &
+    rules_outcome_from_reason & validation_validated & tt) in
     let update_below =
-    position_position_syntax_is_shaped & positions_positions & reader_entry & rules_state_answer & rules_state_fresh &
-    rules_state_is_read & validation_validated & tt in
+    parser_answer & parser_entry & parser_new & position_syntax_is_shaped & positions_positions & rules_outcome_is_read &
+    rules_outcome_from_reason & validation_validated & tt in
     let update_graph_update = in_update.graph_update W refl update_below in
     let update_undecided_read_update = in_update.undecided_read_update W refl update_below in
     let lent_graph_update = in_lent.graph_update W refl
-    (position_position_syntax_default & position_position_syntax_is_shaped & position_alone_read_position & rules_outcome_is_read &
-    rules_state_answer & rules_state_is_read & update_undecided_read_update & validation_validate_graph & tt) in
-    let probability_below = fields_take & reader_demand & reader_invalid & rules_state_is_read & tt in
+    (position_syntax_default & position_alone_read_position & rules_outcome_is_read & update_undecided_read_update &
+    validation_validate & tt) in
+    let probability_below = parser_take & tt in
     let probability_is_finite = in_probability.is_finite W refl probability_below in
     let probability_probabilities = in_probability.probabilities W refl probability_below in
     let code_tables_tables = in_code_tables.tables W refl
-    (fields_count & fields_take & probability_probabilities & reader_invalid & rules_state_is_read & variable_escaped & tt) in
-    let lzw_lzw = in_lzw.lzw W refl (reader_stop & variable_escaped & tt) in
+    (parser_count & parser_escaped & parser_take & probability_probabilities & tt) in
+    let lzw_lzw = in_lzw.lzw W refl (parser_escaped & tt) in
     let compression_metadata_compression = in_compression.metadata_compression W refl
-    (code_tables_tables & fields_flag & fields_take & lzw_lzw & probability_is_finite & reader_demand & reader_invalid &
-    reader_set_end & variable_passive_bits & tt) in
-    let common_below = fields_flag & fields_passive_values & fields_take & variable_escaped & variable_passive_bits & tt in
+    (code_tables_tables & lzw_lzw & parser_end & parser_flag & parser_passive_bits & parser_position & parser_set_end &
+    parser_take & probability_is_finite & tt) in
+    let common_below = parser_escaped & parser_flag & parser_passive_bits & parser_passive_values & parser_take & tt in
     let common_metadata_resource = in_common.metadata_resource W refl common_below in
     let common_metadata_reverb = in_common.metadata_reverb W refl common_below in
     let common_number = in_common.number W refl common_below in
@@ -192,22 +177,21 @@ linked =
     let common_resource_parameters = in_common.resource_parameters W refl common_below in
     let common_values = in_common.values W refl common_below in
     let default_position_default_position = in_default_position.default_position W refl
-    (position_position_syntax_default & position_position & tt) in
-    let bands_below =
-    common_number & fields_count & fields_flag & fields_passive_values & reader_stop & rules_state_is_read & variable_escaped & tt in
+    (position_syntax_default & position_position & tt) in
+    let bands_below = common_number & parser_count & parser_escaped & parser_flag & parser_passive_values & tt in
     let bands_bands = in_bands.bands W refl bands_below in
     let bands_count_plus_one = in_bands.count_plus_one W refl bands_below in
     let bands_renderer_precision = in_bands.renderer_precision W refl bands_below in
     let radiation_renderer_radiation = in_radiation.renderer_radiation W refl
     (bands_bands & bands_count_plus_one & bands_renderer_precision & common_metadata_resource & common_number & common_payload &
-    fields_flag & fields_take & reader_invalid & rules_state_is_read & variable_escaped & variable_passive_bits & tt) in
+    parser_escaped & parser_flag & parser_passive_bits & parser_take & tt) in
     let matrix_matrix = in_matrix.matrix W refl
-    (common_resource_parameters & fields_flag & fields_take & reader_invalid & variable_passive_bits & tt) in
+    (common_resource_parameters & parser_flag & parser_passive_bits & parser_take & tt) in
     let scene_reverb_scene_reverb = in_scene_reverb.scene_reverb W refl
-    (common_metadata_resource & common_metadata_reverb & common_values & fields_take & reader_invalid & reader_stop & tt) in
+    (common_metadata_resource & common_metadata_reverb & common_values & parser_take & tt) in
     let renderer_kinds_below =
-    common_number & common_number_if & common_number_unless & common_values & fields_drc_count & fields_flag & fields_passive_values &
-    fields_take & rules_state_is_read & tt in
+    common_number & common_number_if & common_number_unless & common_values & parser_drc_count & parser_flag &
+    parser_passive_values & parser_take & tt in
     let renderer_kinds_encoded_flag = in_renderer_kinds.encoded_flag W refl renderer_kinds_below in
     let renderer_kinds_encoded_if_one = in_renderer_kinds.encoded_if_one W refl renderer_kinds_below in
     let renderer_kinds_encoded_unless_zero = in_renderer_kinds.encoded_unless_zero W refl renderer_kinds_below in
@@ -217,35 +201,34 @@ linked =
     let renderer_kinds_single_region_if_present = in_renderer_kinds.single_region_if_present W refl renderer_kinds_below in
     let renderer_kinds_spread = in_renderer_kinds.spread W refl renderer_kinds_below in
     let renderer_kinds_three_values = in_renderer_kinds.three_values W refl renderer_kinds_below in
-    let renderer_renderer_data = in_renderer.renderer_data W refl
-    (common_number & common_number_if & common_payload & default_position_default_position & matrix_matrix &
-    radiation_renderer_radiation & reader_invalid & renderer_kinds_encoded_flag & renderer_kinds_encoded_if_one &
+    let renderer_data = in_renderer.renderer_data W refl
+    (common_number & common_number_if & common_payload & default_position_default_position & matrix_matrix & parser_escaped &
+    radiation_renderer_radiation & renderer_kinds_encoded_flag & renderer_kinds_encoded_if_one &
     renderer_kinds_encoded_unless_zero & renderer_kinds_flag_and_encoded & renderer_kinds_order_and_encoded &
-    renderer_kinds_regions_unless_all & renderer_kinds_single_region_if_present & renderer_kinds_spread & renderer_kinds_three_values
-    & rules_state_is_read & scene_reverb_scene_reverb & variable_escaped & tt) in
+    renderer_kinds_regions_unless_all & renderer_kinds_single_region_if_present & renderer_kinds_spread &
+    renderer_kinds_three_values & scene_reverb_scene_reverb & tt) in
     let headphones_headphones = in_headphones.headphones W refl
-    (common_number & fields_take & reader_invalid & rules_state_is_read & variable_passive_bits & tt) in
-    let hrtf_hrtf = in_hrtf.hrtf W refl (common_metadata_resource & common_number & common_number_if & fields_take & reader_stop & tt) in
+    (common_number & parser_passive_bits & parser_position & parser_take & tt) in
+    let hrtf_hrtf = in_hrtf.hrtf W refl (common_metadata_resource & common_number & common_number_if & parser_take & tt) in
     let speakers_labelled_layout = in_speakers.labelled_layout W refl
-    (common_metadata_resource & common_number & common_number_unless & fields_drc_count & fields_passive_values & fields_take &
-    rules_state_is_read & variable_label & tt) in
+    (common_metadata_resource & common_number & common_number_unless & parser_drc_count & parser_label & parser_passive_values &
+    parser_take & tt) in
     let global_metadata_global_parameter = in_global.metadata_global_parameter W refl
     (common_metadata_resource & common_number & common_number_unless & common_payload & common_values &
-    default_position_default_position & fields_flag & fields_passive_values & fields_take & headphones_headphones & hrtf_hrtf &
-    speakers_labelled_layout & variable_escaped & variable_passive_bits & tt) in
-    let component_below = fields_count & fields_flag & fields_take & reader_invalid & rules_state_is_read & variable_escaped & tt in
-    let component_component_unless_default = in_component.component_unless_default W refl component_below in
+    default_position_default_position & headphones_headphones & hrtf_hrtf & parser_escaped & parser_flag & parser_passive_bits &
+    parser_passive_values & parser_take & speakers_labelled_layout & tt) in
+    let component_below = parser_count & parser_escaped & parser_flag & parser_take & tt in
+    let component_unless_default = in_component.component_unless_default W refl component_below in
     let component_metadata_esc = in_component.metadata_esc W refl component_below in
     let component_metadata_number = in_component.metadata_number W refl component_below in
     let configuration_below =
-    component_component_unless_default & component_metadata_esc & component_metadata_number & compression_metadata_compression &
-    fields_count & fields_flag & fields_take & global_metadata_global_parameter & reader_invalid & renderer_renderer_data &
-    rules_state_is_read & variable_escaped & tt in
+    component_unless_default & component_metadata_esc & component_metadata_number & compression_metadata_compression &
+    global_metadata_global_parameter & parser_count & parser_escaped & parser_flag & parser_take & renderer_data & tt in
     let configuration_compression_if_present = in_configuration.compression_if_present W refl configuration_below in
     let configuration_parameters_and_groups = in_configuration.parameters_and_groups W refl configuration_below in
     let metadata_read_metadata = in_metadata.read_metadata W refl
-    (configuration_compression_if_present & configuration_parameters_and_groups & fields_flag & reader_demand & reader_entry &
-    rules_state_answer & rules_state_fresh & tt) in
+    (configuration_compression_if_present & configuration_parameters_and_groups & parser_answer & parser_entry & parser_flag &
+    parser_new & rules_outcome_from_reason & tt) in
     let text_put = in_text.put W refl tt in
     let text_put_decimal = in_text.put_decimal W refl tt in
     let text_put_last = in_text.put_last W refl tt in
@@ -290,8 +273,8 @@ linked =
     (show_header_file_question & show_header_part_count & show_lines_put_part & show_lines_put_refused & show_lines_put_shapes &
     show_parts_scene_part & show_parts_update_part & tt) in
     let part_read_part = in_part.read_part W refl
-    (rules_outcome_is_read & show_header_file_question & show_header_part_count & show_parts_scene_part & show_parts_update_part & tt)
-    in
+    (rules_outcome_is_read & show_header_file_question & show_header_part_count & show_parts_scene_part & show_parts_update_part &
+    tt) in
     let γ : Env = tie_t (in_world W) in
     let wired : (c : Code) → HasT (in_world W) true c → Wired γ c =
     has-wired_t (in_world W) γ (tie_t-follows (in_world W)) (tie_t-threads (in_world W)) in (

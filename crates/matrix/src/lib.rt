@@ -3,10 +3,11 @@
 #![tactic(auto)]
 
 ghost use Rattle.std.specs.Prelude.{◌%◌, ◌<◌, ◌^◌};
-ghost use Rattle.rules.specs.Met.{Met, Sound};
+ghost use Rattle.parser.specs.Met.{Met};
 ghost use Rattle.matrix.specs.Matrix.{coefficient_count, Within, coefficient_bits, matrix_coefficients, matrix};
 
-use rules::{State, leaf};
+use parser::{Parser, tri};
+use rules::{Reason, leaf};
 
 // The low half of a layout.
 fn low_half(layout: u64) -> usize
@@ -24,59 +25,49 @@ fn coefficient_count(layout: u64, order: u64) -> usize
     low * (order as usize + 1) * (order as usize + 1)
 }
 
-// Kind 22: `n` coefficients of 32 bits, or of 16 and a scale.
-fn coefficient_bits(bytes: &[u8], words: &mut [u64], s: State, q: u64, n: usize) -> State
-    requires sound { Sound s }
+// Kind 22: `count` coefficients of 32 bits, or of 16 and a scale.
+fn coefficient_bits(parser: &mut Parser<'_>, q: u64, count: usize) -> Result<(), Reason>
     requires q_bound { q < 2 ^ 38 }
-    requires n_bound { n < 2 ^ 25 }
-    ensures { Met (coefficient_bits q n) bytes.now words.old s tt result words.new }
+    requires count_bound { count < 2 ^ 25 }
+    ensures { Met (coefficient_bits q count) parser.old result parser.new }
 {
-    let a = fields::flag(bytes, words, s, q + leaf::FLOAT_COEFFICIENTS);
-    let s1 = a.state;
-    if a.value {
-        return variable::passive_bits(words, s1, q + leaf::COEFFICIENT_BITS, n * 32);
+    let float = tri!(parser.flag(q + leaf::FLOAT_COEFFICIENTS));
+    if float {
+        return parser.passive_bits(q + leaf::COEFFICIENT_BITS, count * 32);
     }
-    let b = fields::take(bytes, words, s1, q + leaf::SCALE_BITS, 32);
-    let s2 = b.state;
-    variable::passive_bits(words, s2, q + leaf::COEFFICIENT_BITS, n * 16)
+    tri!(parser.take(q + leaf::SCALE_BITS, 32));
+    parser.passive_bits(q + leaf::COEFFICIENT_BITS, count * 16)
 }
 
 // As many coefficients as the layout and the order say.
-fn coefficients(bytes: &[u8], words: &mut [u64], s: State, q: u64, layout: u64, order: u64) -> State
-    requires sound { Sound s }
+fn coefficients(parser: &mut Parser<'_>, q: u64, layout: u64, order: u64) -> Result<(), Reason>
     requires q_bound { q < 2 ^ 38 }
     requires order_bound { order < 16 }
-    ensures { Met (coefficient_bits q (coefficient_count layout order)) bytes.now words.old s tt result words.new }
+    ensures { Met (coefficient_bits q (coefficient_count layout order)) parser.old result parser.new }
 {
-    let n = coefficient_count(layout, order);
-    coefficient_bits(bytes, words, s, q, n)
+    let count = coefficient_count(layout, order);
+    coefficient_bits(parser, q, count)
 }
 
 // Kind 22, location 1: coefficients.
-fn matrix_coefficients(bytes: &[u8], words: &mut [u64], s: State, q: u64) -> State
-    requires sound { Sound s }
-    requires q_bound { q < 2 ^ 38 }
-    ensures { Met (matrix_coefficients q) bytes.now words.old s tt result words.new }
+fn matrix_coefficients(parser: &mut Parser<'_>, q: u64) -> Result<(), Reason>
+    requires { q < 2 ^ 38 }
+    ensures { Met (matrix_coefficients q) parser.old result parser.new }
 {
-    let order = fields::take(bytes, words, s, q + leaf::ORDER, 4);
-    let s1 = order.state;
-    let layout = fields::take(bytes, words, s1, q + leaf::LAYOUT_TAG, 32);
-    let s2 = layout.state;
-    coefficients(bytes, words, s2, q, layout.value, order.value)
+    let order = tri!(parser.take(q + leaf::ORDER, 4));
+    let layout = tri!(parser.take(q + leaf::LAYOUT_TAG, 32));
+    coefficients(parser, q, layout, order)
 }
 
 // Kind 22: a rendering matrix.
-pub fn matrix(bytes: &[u8], words: &mut [u64], s: State, q: u64) -> State
-    requires sound { Sound s }
-    requires q_bound { q < 2 ^ 38 }
-    ensures { Met (matrix q) bytes.now words.old s tt result words.new }
+pub fn matrix(parser: &mut Parser<'_>, q: u64) -> Result<(), Reason>
+    requires { q < 2 ^ 38 }
+    ensures { Met (matrix q) parser.old result parser.new }
 {
-    let a = fields::take(bytes, words, s, q + leaf::LOCATION, 2);
-    let s1 = a.state;
-    let location = a.value;
+    let location = tri!(parser.take(q + leaf::LOCATION, 2));
     match location {
-        0 | 2 => common::resource_parameters(bytes, words, s1, q),
-        1 => matrix_coefficients(bytes, words, s1, q),
-        _ => reader::invalid(s1, 14),
+        0 | 2 => common::resource_parameters(parser, q),
+        1 => matrix_coefficients(parser, q),
+        _ => Err(Reason::MatrixLocation),
     }
 }

@@ -2,52 +2,49 @@
 #![tactic(auto)]
 
 ghost use Rattle.std.specs.Prelude.{length};
-ghost use Rattle.rules.specs.Met.{Met, Sound};
 ghost use Rattle.rules.specs.Answer.{input_of, entry_then, Answered};
+ghost use Rattle.parser.specs.Met.{Met};
 ghost use Rattle.metadata.specs.Metadata.{configuration_present, metadata_configuration};
 ghost use Rattle.metadata.specs.Entry.{metadata_reading};
 
-use rules::{Answer, State, block, leaf};
+use parser::{Parser, tri};
+use rules::{Answer, Outcome, Reason, block, leaf};
 
 // Refused by 10 unless the configuration is there.
-fn configuration_present(bytes: &[u8], words: &mut [u64], s: State) -> State
-    requires { Sound s }
-    ensures { Met configuration_present bytes.now words.old s tt result words.new }
+fn configuration_present(parser: &mut Parser<'_>) -> Result<(), Reason>
+    ensures { Met configuration_present parser.old result parser.new }
 {
-    let a = fields::flag(
-        bytes,
-        words,
-        s,
-        block::METADATA + leaf::CONFIGURATION_PRESENT,
-    );
-    let s1 = a.state;
-    reader::demand(s1, a.value, 10)
+    let present = tri!(parser.flag(block::METADATA + leaf::CONFIGURATION_PRESENT));
+    if present {
+        return Ok(());
+    }
+    Err(Reason::NoConfiguration)
 }
 
 // `metadata_configuration`.
-fn metadata_configuration(bytes: &[u8], words: &mut [u64], s: State) -> State
-    requires { Sound s }
-    ensures { Met metadata_configuration bytes.now words.old s tt result words.new }
+fn metadata_configuration(parser: &mut Parser<'_>) -> Result<(), Reason>
+    ensures { Met metadata_configuration parser.old result parser.new }
 {
-    let s1 = configuration::compression_if_present(bytes, words, s);
-    let s2 = configuration_present(bytes, words, s1);
-    configuration::parameters_and_groups(bytes, words, s2)
+    tri!(configuration::compression_if_present(parser));
+    tri!(configuration_present(parser));
+    configuration::parameters_and_groups(parser)
 }
 
 // The questions of an entry, and a metadata configuration.
-fn entered(bytes: &[u8], words: &mut [u64], s: State, offset: usize) -> State
-    requires { Sound s }
-    ensures { Met (entry_then (length bytes.now) 0 offset metadata_configuration) bytes.now words.old s tt result words.new }
+fn entered(parser: &mut Parser<'_>, offset: usize) -> Result<(), Reason>
+    ensures { Met (entry_then (length parser.old.bytes.now) 0 offset metadata_configuration) parser.old result parser.new }
 {
-    let t = reader::entry(bytes, s, 0, offset);
-    metadata_configuration(bytes, words, t)
+    tri!(parser.entry(Ok(()), offset));
+    metadata_configuration(parser)
 }
 
 // A metadata configuration from the bit `offset` on.
 pub fn read_metadata(bytes: &[u8], offset: usize, recording: bool, words: &mut [u64]) -> Answer
     ensures { Answered (metadata_reading (input_of bytes.now recording words.old) offset) tt recording words.old result tt words.new }
 {
-    let s = State::fresh(recording, 0);
-    let t = entered(bytes, words, s, offset);
-    t.answer()
+    let mut parser = Parser::new(bytes, words, recording, 0);
+    match entered(&mut parser, offset) {
+        Ok(()) => parser.answer(Outcome::Read),
+        Err(reason) => parser.answer(Outcome::from(reason)),
+    }
 }

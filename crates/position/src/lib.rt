@@ -1,14 +1,14 @@
 // The passive syntax of one scene position: passive.rs, `position`. Coordinates stay encoded.
 #![tactic(auto)]
 
-ghost use Rattle.std.specs.Prelude.{◌≡◌, ◌≤◌, ◌<◌, ◌^◌};
-ghost use Rattle.rules.specs.Met.{Met, Sound};
+ghost use Rattle.std.specs.Prelude.{◌≡◌, ◌≤◌, ◌<◌, ◌^◌, IfOk};
+ghost use Rattle.parser.specs.Met.{Met};
 ghost use Rattle.position.specs.Shape.{default, with_dynamics, with_precisions, with_parent, with_polar};
 ghost use Rattle.position.specs.Position.{precision_of, dynamics, precisions, header, changed, new_parent, parent, range, flag_unless, coordinates, coordinates_if_present, rotation_values, rotation, before_range, after_range, position};
-ghost use Rattle.position.specs.Formed.{Shaped, is_shaped, Formed, Remade};
+ghost use Rattle.position.specs.Formed.{Shaped, is_shaped, Remade};
 
-use fields::Flagged;
-use rules::{Field, State, leaf};
+use parser::{Parser, tri};
+use rules::{Field, Reason, leaf};
 
 // The encoding shape of one scene position, which crosses to C as it is.
 #[repr(C)]
@@ -20,13 +20,6 @@ pub struct PositionSyntax {
     pub rotation_precision: usize,
     pub parent: usize,
     pub polar: bool,
-}
-
-// A shape that was read, and the reading after it.
-#[derive(Clone, Copy)]
-pub struct TakenShape {
-    pub state: State,
-    pub shape: PositionSyntax,
 }
 
 impl PositionSyntax {
@@ -48,22 +41,16 @@ impl PositionSyntax {
     pub fn is_shaped(self) -> bool
         ensures { result ≡ is_shaped self }
     {
-        if self.position_precision <= 24 {
-            return self.rotation_precision <= 24;
-        }
-        false
+        self.position_precision <= 24 && self.rotation_precision <= 24
     }
 
-    fn with_dynamics(self, parent: bool, range: bool) -> PositionSyntax
-        ensures { result ≡ with_dynamics self parent range }
+    fn with_dynamics(self, parent_dynamic: bool, range_dynamic: bool) -> PositionSyntax
+        ensures { result ≡ with_dynamics self parent_dynamic range_dynamic }
     {
         PositionSyntax {
-            parent_dynamic: parent,
-            range_dynamic: range,
-            position_precision: self.position_precision,
-            rotation_precision: self.rotation_precision,
-            parent: self.parent,
-            polar: self.polar,
+            parent_dynamic,
+            range_dynamic,
+            ..self
         }
     }
 
@@ -71,15 +58,10 @@ impl PositionSyntax {
     fn with_precisions(self, position: u64, rotation: u64) -> PositionSyntax
         ensures { Remade result (with_precisions self (precision_of position) (precision_of rotation)) }
     {
-        let a = precision(position);
-        let b = precision(rotation);
         PositionSyntax {
-            parent_dynamic: self.parent_dynamic,
-            range_dynamic: self.range_dynamic,
-            position_precision: a,
-            rotation_precision: b,
-            parent: self.parent,
-            polar: self.polar,
+            position_precision: precision(position),
+            rotation_precision: precision(rotation),
+            ..self
         }
     }
 
@@ -87,392 +69,261 @@ impl PositionSyntax {
         requires { Shaped self }
         ensures { Remade result (with_parent self parent) }
     {
-        PositionSyntax {
-            parent_dynamic: self.parent_dynamic,
-            range_dynamic: self.range_dynamic,
-            position_precision: self.position_precision,
-            rotation_precision: self.rotation_precision,
-            parent,
-            polar: self.polar,
-        }
+        PositionSyntax { parent, ..self }
     }
 
     fn with_polar(self, polar: bool) -> PositionSyntax
         requires { Shaped self }
         ensures { Remade result (with_polar self polar) }
     {
-        PositionSyntax {
-            parent_dynamic: self.parent_dynamic,
-            range_dynamic: self.range_dynamic,
-            position_precision: self.position_precision,
-            rotation_precision: self.rotation_precision,
-            parent: self.parent,
-            polar,
-        }
+        PositionSyntax { polar, ..self }
     }
 }
 
 // Twice the encoded precision, at most 24.
-fn precision(v: u64) -> usize
-    ensures { result ≡ precision_of v }
+fn precision(encoded: u64) -> usize
+    ensures { result ≡ precision_of encoded }
 {
-    if 12 < v {
+    if 12 < encoded {
         return 24;
     }
-    v as usize * 2
+    encoded as usize * 2
 }
 
 // The two flags of a full position.
-fn dynamics(bytes: &[u8], words: &mut [u64], s: State, p: u64, shape: PositionSyntax) -> TakenShape
-    requires sound { Sound s }
-    requires p_bound { p < 2 ^ 38 }
-    ensures { Met (dynamics p shape) bytes.now words.old s result.shape result.state words.new }
+fn dynamics(
+    parser: &mut Parser<'_>,
+    p: u64,
+    shape: PositionSyntax,
+) -> Result<PositionSyntax, Reason>
+    requires { p < 2 ^ 38 }
+    ensures { Met (dynamics p shape) parser.old result parser.new }
 {
-    let a = fields::flag(bytes, words, s, p + leaf::PARENT_DYNAMIC);
-    let s1 = a.state;
-    let b = fields::flag(bytes, words, s1, p + leaf::RANGE_DYNAMIC);
-    let s2 = b.state;
-    let to = shape.with_dynamics(a.value, b.value);
-    TakenShape {
-        state: s2,
-        shape: to,
-    }
+    let parent = tri!(parser.flag(p + leaf::PARENT_DYNAMIC));
+    let range = tri!(parser.flag(p + leaf::RANGE_DYNAMIC));
+    Ok(shape.with_dynamics(parent, range))
 }
 
 // The two precisions of a full position.
 fn precisions(
-    bytes: &[u8],
-    words: &mut [u64],
-    s: State,
+    parser: &mut Parser<'_>,
     p: u64,
     shape: PositionSyntax,
-) -> TakenShape
-    requires sound { Sound s }
-    requires p_bound { p < 2 ^ 38 }
-    ensures { Formed (precisions p shape) bytes.now words.old s result.shape result.state words.new }
+) -> Result<PositionSyntax, Reason>
+    requires { p < 2 ^ 38 }
+    ensures met { Met (precisions p shape) parser.old result parser.new }
+    ensures shaped { IfOk result Shaped }
 {
-    let a = fields::take(bytes, words, s, p + leaf::POSITION_PRECISION_ENCODED, 4);
-    let s1 = a.state;
-    let b = fields::take(bytes, words, s1, p + leaf::ROTATION_PRECISION_ENCODED, 4);
-    let s2 = b.state;
-    let to = shape.with_precisions(a.value, b.value);
-    TakenShape {
-        state: s2,
-        shape: to,
-    }
+    let position = tri!(parser.take(p + leaf::POSITION_PRECISION_ENCODED, 4));
+    let rotation = tri!(parser.take(p + leaf::ROTATION_PRECISION_ENCODED, 4));
+    Ok(shape.with_precisions(position, rotation))
 }
 
 // What only a full position has.
 fn header(
-    bytes: &[u8],
-    words: &mut [u64],
-    s: State,
+    parser: &mut Parser<'_>,
     p: u64,
     shape: PositionSyntax,
     full: bool,
-) -> TakenShape
-    requires sound { Sound s }
+) -> Result<PositionSyntax, Reason>
     requires shaped { Shaped shape }
     requires p_bound { p < 2 ^ 38 }
-    ensures { Formed (header p shape full) bytes.now words.old s result.shape result.state words.new }
+    ensures met { Met (header p shape full) parser.old result parser.new }
+    ensures shaped { IfOk result Shaped }
 {
     if full {
-        let a = dynamics(bytes, words, s, p, shape);
-        let s1 = a.state;
-        let to = a.shape;
-        return precisions(bytes, words, s1, p, to);
+        let shape = tri!(dynamics(parser, p, shape));
+        return precisions(parser, p, shape);
     }
-    TakenShape { state: s, shape }
+    Ok(shape)
 }
 
 // Whether a part that may change is there: always in a full position, else by its flag if the shape has it dynamic.
-fn changed(
-    bytes: &[u8],
-    words: &mut [u64],
-    s: State,
-    name: u64,
-    dynamic: bool,
-    full: bool,
-) -> Flagged
-    requires { Sound s }
-    ensures { Met (changed name dynamic full) bytes.now words.old s result.value result.state words.new }
+fn changed(parser: &mut Parser<'_>, name: u64, dynamic: bool, full: bool) -> Result<bool, Reason>
+    ensures { Met (changed name dynamic full) parser.old result parser.new }
 {
     if full {
-        return Flagged {
-            state: s,
-            value: true,
-        };
+        return Ok(true);
     }
     if dynamic {
-        return fields::flag(bytes, words, s, name);
+        return parser.flag(name);
     }
-    Flagged {
-        state: s,
-        value: false,
-    }
+    Ok(false)
 }
 
 // The parent: none if it is absolute, or an index, of which 0 is none too.
 fn new_parent(
-    bytes: &[u8],
-    words: &mut [u64],
-    s: State,
+    parser: &mut Parser<'_>,
     p: u64,
     shape: PositionSyntax,
-) -> TakenShape
-    requires sound { Sound s }
+) -> Result<PositionSyntax, Reason>
     requires shaped { Shaped shape }
     requires p_bound { p < 2 ^ 38 }
-    ensures { Formed (new_parent p shape) bytes.now words.old s result.shape result.state words.new }
+    ensures met { Met (new_parent p shape) parser.old result parser.new }
+    ensures shaped { IfOk result Shaped }
 {
-    let a = fields::flag(bytes, words, s, p + leaf::ABSOLUTE_PARENT);
-    let s1 = a.state;
-    if a.value {
-        let to = shape.with_parent(0);
-        return TakenShape {
-            state: s1,
-            shape: to,
-        };
+    let absolute = tri!(parser.flag(p + leaf::ABSOLUTE_PARENT));
+    if absolute {
+        return Ok(shape.with_parent(0));
     }
-    let b = fields::take(bytes, words, s1, p + leaf::PARENT_INDEX, 6);
-    let s2 = b.state;
-    let to = shape.with_parent(b.value as usize);
-    TakenShape {
-        state: s2,
-        shape: to,
-    }
+    let index = tri!(parser.take(p + leaf::PARENT_INDEX, 6));
+    Ok(shape.with_parent(index as usize))
 }
 
 // The parent, if it is there.
 fn parent(
-    bytes: &[u8],
-    words: &mut [u64],
-    s: State,
+    parser: &mut Parser<'_>,
     p: u64,
     shape: PositionSyntax,
     full: bool,
-) -> TakenShape
-    requires sound { Sound s }
+) -> Result<PositionSyntax, Reason>
     requires shaped { Shaped shape }
     requires p_bound { p < 2 ^ 38 }
-    ensures { Formed (parent p shape full) bytes.now words.old s result.shape result.state words.new }
+    ensures met { Met (parent p shape full) parser.old result parser.new }
+    ensures shaped { IfOk result Shaped }
 {
-    let a = changed(
-        bytes,
-        words,
-        s,
-        p + leaf::PARENT_UPDATE,
-        shape.parent_dynamic,
-        full,
-    );
-    let s1 = a.state;
-    if a.value {
-        return new_parent(bytes, words, s1, p, shape);
+    let present = tri!(changed(parser, p + leaf::PARENT_UPDATE, shape.parent_dynamic, full));
+    if present {
+        return new_parent(parser, p, shape);
     }
-    TakenShape { state: s1, shape }
+    Ok(shape)
 }
 
 // The range.
-fn range(bytes: &[u8], words: &mut [u64], s: State, p: u64, dynamic: bool, full: bool) -> State
-    requires sound { Sound s }
-    requires p_bound { p < 2 ^ 38 }
-    ensures { Met (range p dynamic full) bytes.now words.old s tt result words.new }
+fn range(parser: &mut Parser<'_>, p: u64, dynamic: bool, full: bool) -> Result<(), Reason>
+    requires { p < 2 ^ 38 }
+    ensures { Met (range p dynamic full) parser.old result parser.new }
 {
-    let a = changed(bytes, words, s, p + leaf::RANGE_UPDATE, dynamic, full);
-    let s1 = a.state;
-    if a.value {
-        let b = fields::take(bytes, words, s1, p + leaf::RANGE_ENCODED, 4);
-        return b.state;
+    let present = tri!(changed(parser, p + leaf::RANGE_UPDATE, dynamic, full));
+    if present {
+        tri!(parser.take(p + leaf::RANGE_ENCODED, 4));
     }
-    s1
+    Ok(())
 }
 
 // A flag, unless it is known already.
-fn flag_unless(
-    bytes: &[u8],
-    words: &mut [u64],
-    s: State,
-    name: u64,
-    known: bool,
-    value: bool,
-) -> Flagged
-    requires { Sound s }
-    ensures { Met (flag_unless name known value) bytes.now words.old s result.value result.state words.new }
+fn flag_unless(parser: &mut Parser<'_>, name: u64, known: bool, value: bool) -> Result<bool, Reason>
+    ensures { Met (flag_unless name known value) parser.old result parser.new }
 {
     if known {
-        return Flagged { state: s, value };
+        return Ok(value);
     }
-    fields::flag(bytes, words, s, name)
+    parser.flag(name)
 }
 
 // Where a position is present: whether it is a delta, whether it is polar, which a delta keeps, and its coordinates.
 fn coordinates(
-    bytes: &[u8],
-    words: &mut [u64],
-    s: State,
+    parser: &mut Parser<'_>,
     p: u64,
     shape: PositionSyntax,
     full: bool,
-) -> TakenShape
-    requires sound { Sound s }
+) -> Result<PositionSyntax, Reason>
     requires shaped { Shaped shape }
     requires p_bound { p < 2 ^ 38 }
-    ensures { Formed (coordinates p shape full) bytes.now words.old s result.shape result.state words.new }
+    ensures met { Met (coordinates p shape full) parser.old result parser.new }
+    ensures shaped { IfOk result Shaped }
 {
-    let d = flag_unless(bytes, words, s, p + leaf::POSITION_DELTA, full, false);
-    let s1 = d.state;
-    let q = flag_unless(bytes, words, s1, p + leaf::POLAR, d.value, shape.polar);
-    let s2 = q.state;
-    let to = shape.with_polar(q.value);
-    let s3 = coordinates::coordinate_values(
-        bytes,
-        words,
-        s2,
-        p,
-        q.value,
-        shape.position_precision,
-        d.value,
-    );
-    TakenShape {
-        state: s3,
-        shape: to,
-    }
+    let delta = tri!(flag_unless(parser, p + leaf::POSITION_DELTA, full, false));
+    let polar = tri!(flag_unless(parser, p + leaf::POLAR, delta, shape.polar));
+    tri!(coordinates::coordinate_values(parser, p, polar, shape.position_precision, delta));
+    Ok(shape.with_polar(polar))
 }
 
 // The coordinates, if they are there; the shape may become polar or not by them.
 fn coordinates_if_present(
-    bytes: &[u8],
-    words: &mut [u64],
-    s: State,
+    parser: &mut Parser<'_>,
     p: u64,
     shape: PositionSyntax,
     full: bool,
-) -> TakenShape
-    requires sound { Sound s }
+) -> Result<PositionSyntax, Reason>
     requires shaped { Shaped shape }
     requires p_bound { p < 2 ^ 38 }
-    ensures { Formed (coordinates_if_present p shape full) bytes.now words.old s result.shape result.state words.new }
+    ensures met { Met (coordinates_if_present p shape full) parser.old result parser.new }
+    ensures shaped { IfOk result Shaped }
 {
-    let a = fields::flag(bytes, words, s, p + leaf::POSITION_PRESENT);
-    let s1 = a.state;
-    if a.value {
-        return coordinates(bytes, words, s1, p, shape, full);
+    let present = tri!(parser.flag(p + leaf::POSITION_PRESENT));
+    if present {
+        return coordinates(parser, p, shape, full);
     }
-    TakenShape { state: s1, shape }
+    Ok(shape)
 }
 
 // The four numbers of a rotation.
 fn rotation_values(
-    bytes: &[u8],
-    words: &mut [u64],
-    s: State,
+    parser: &mut Parser<'_>,
     p: u64,
     precision: usize,
     delta: bool,
-) -> State
-    requires sound { Sound s }
+) -> Result<(), Reason>
     requires precision_bound { precision ≤ 24 }
     requires p_bound { p < 2 ^ 38 }
-    ensures { Met (rotation_values p precision delta) bytes.now words.old s tt result words.new }
+    ensures { Met (rotation_values p precision delta) parser.old result parser.new }
 {
-    let a = coordinates::width(8, precision, delta);
-    let all = [a; 4];
-    fields::passive_values(
-        bytes,
-        words,
-        s,
-        p + leaf::ROTATION_ENCODED,
-        Field::THIRD,
-        &all,
-    )
+    let widths = [coordinates::width(8, precision, delta); 4];
+    parser.passive_values(p + leaf::ROTATION_ENCODED, Field::THIRD, &widths)
 }
 
 // The rotation, if it is there.
-fn rotation(
-    bytes: &[u8],
-    words: &mut [u64],
-    s: State,
-    p: u64,
-    precision: usize,
-    full: bool,
-) -> State
-    requires sound { Sound s }
+fn rotation(parser: &mut Parser<'_>, p: u64, precision: usize, full: bool) -> Result<(), Reason>
     requires precision_bound { precision ≤ 24 }
     requires p_bound { p < 2 ^ 38 }
-    ensures { Met (rotation p precision full) bytes.now words.old s tt result words.new }
+    ensures { Met (rotation p precision full) parser.old result parser.new }
 {
-    let a = fields::flag(bytes, words, s, p + leaf::ROTATION_PRESENT);
-    let s1 = a.state;
-    if a.value {
-        let d = flag_unless(bytes, words, s1, p + leaf::ROTATION_DELTA, full, false);
-        let s2 = d.state;
-        return rotation_values(bytes, words, s2, p, precision, d.value);
+    let present = tri!(parser.flag(p + leaf::ROTATION_PRESENT));
+    if present {
+        let delta = tri!(flag_unless(parser, p + leaf::ROTATION_DELTA, full, false));
+        return rotation_values(parser, p, precision, delta);
     }
-    s1
+    Ok(())
 }
 
 // The shape as far as the range.
 fn before_range(
-    bytes: &[u8],
-    words: &mut [u64],
-    s: State,
+    parser: &mut Parser<'_>,
     p: u64,
     shape: PositionSyntax,
     full: bool,
-) -> TakenShape
-    requires sound { Sound s }
+) -> Result<PositionSyntax, Reason>
     requires shaped { Shaped shape }
     requires p_bound { p < 2 ^ 38 }
-    ensures { Formed (before_range p shape full) bytes.now words.old s result.shape result.state words.new }
+    ensures met { Met (before_range p shape full) parser.old result parser.new }
+    ensures shaped { IfOk result Shaped }
 {
-    let a = header(bytes, words, s, p, shape, full);
-    let s1 = a.state;
-    let to = a.shape;
-    parent(bytes, words, s1, p, to, full)
+    let shape = tri!(header(parser, p, shape, full));
+    parent(parser, p, shape, full)
 }
 
 // What follows the range.
 fn after_range(
-    bytes: &[u8],
-    words: &mut [u64],
-    s: State,
+    parser: &mut Parser<'_>,
     p: u64,
     shape: PositionSyntax,
     full: bool,
-) -> TakenShape
-    requires sound { Sound s }
+) -> Result<PositionSyntax, Reason>
     requires shaped { Shaped shape }
     requires p_bound { p < 2 ^ 38 }
-    ensures { Formed (after_range p shape full) bytes.now words.old s result.shape result.state words.new }
+    ensures met { Met (after_range p shape full) parser.old result parser.new }
+    ensures shaped { IfOk result Shaped }
 {
-    let a = coordinates_if_present(bytes, words, s, p, shape, full);
-    let s1 = a.state;
-    let to = a.shape;
-    let s2 = rotation(bytes, words, s1, p, to.rotation_precision, full);
-    let s3 = extensions::extensions_if_present(bytes, words, s2, p);
-    TakenShape {
-        state: s3,
-        shape: to,
-    }
+    let shape = tri!(coordinates_if_present(parser, p, shape, full));
+    tri!(rotation(parser, p, shape.rotation_precision, full));
+    tri!(extensions::extensions_if_present(parser, p));
+    Ok(shape)
 }
 
 // One position, full or of an update, whose names begin with the word `p`.
 pub fn position(
-    bytes: &[u8],
-    words: &mut [u64],
-    s: State,
+    parser: &mut Parser<'_>,
     p: u64,
     shape: PositionSyntax,
     full: bool,
-) -> TakenShape
-    requires sound { Sound s }
+) -> Result<PositionSyntax, Reason>
     requires shaped { Shaped shape }
     requires p_bound { p < 2 ^ 38 }
-    ensures { Formed (position p shape full) bytes.now words.old s result.shape result.state words.new }
+    ensures met { Met (position p shape full) parser.old result parser.new }
+    ensures shaped { IfOk result Shaped }
 {
-    let a = before_range(bytes, words, s, p, shape, full);
-    let s1 = a.state;
-    let to = a.shape;
-    let s2 = range(bytes, words, s1, p, to.range_dynamic, full);
-    after_range(bytes, words, s2, p, to, full)
+    let shape = tri!(before_range(parser, p, shape, full));
+    tri!(range(parser, p, shape.range_dynamic, full));
+    after_range(parser, p, shape, full)
 }

@@ -1,3 +1,2 @@
 pub mod Loops
-pub mod Then
 pub mod Linked

@@ -3,91 +3,64 @@
 // are one loop here, over the shapes that come in: those of a scene are the default.
 #![tactic(auto)]
 
-ghost use Rattle.std.specs.Prelude.{ℕ, ◌≤◌, ◌<◌, ◌^◌, get_or, take};
-ghost use Rattle.rules.specs.Met.{Met, Sound};
+ghost use Rattle.std.specs.Prelude.{ℕ, ◌≤◌, ◌<◌, ◌^◌, length, get_or};
+ghost use Rattle.parser.specs.Met.{Met, giving};
 ghost use Rattle.position.specs.Shape.{default};
 ghost use Rattle.position.specs.Formed.{Shaped};
-ghost use Rattle.positions.specs.Positions.{updated_position, position_at, positions, Positioned};
+ghost use Rattle.positions.specs.Positions.{updated_position, position_at, positions};
 
-use position::{PositionSyntax, TakenShape};
-use rules::{Field, State, block, leaf};
-
-// Shapes that were read, and the reading after them.
-#[derive(Clone, Copy)]
-pub struct TakenShapes {
-    pub state: State,
-    pub shapes: [PositionSyntax; 63],
-}
+use parser::{Parser, tri};
+use position::PositionSyntax;
+use rules::{Field, Reason, block, leaf};
 
 // A position of an update: its flag, and the position if it is set.
 fn updated_position(
-    bytes: &[u8],
-    words: &mut [u64],
-    s: State,
+    parser: &mut Parser<'_>,
     p: u64,
     shape: PositionSyntax,
-) -> TakenShape
-    requires sound { Sound s }
+) -> Result<PositionSyntax, Reason>
     requires shaped { Shaped shape }
     requires p_bound { p < 2 ^ 38 }
-    ensures { Met (updated_position p shape) bytes.now words.old s result.shape result.state words.new }
+    ensures { Met (updated_position p shape) parser.old result parser.new }
 {
-    let a = fields::flag(bytes, words, s, p + leaf::UPDATED);
-    let s1 = a.state;
-    if a.value {
-        return position::position(bytes, words, s1, p, shape, false);
+    let updated = tri!(parser.flag(p + leaf::UPDATED));
+    if updated {
+        return position::position(parser, p, shape, false);
     }
-    TakenShape { state: s1, shape }
+    Ok(shape)
 }
 
 // Position `i`, counted from 0.
 fn position_at(
-    bytes: &[u8],
-    words: &mut [u64],
-    s: State,
+    parser: &mut Parser<'_>,
     i: u64,
     shape: PositionSyntax,
     full: bool,
-) -> TakenShape
-    requires sound { Sound s }
+) -> Result<PositionSyntax, Reason>
     requires shaped { Shaped shape }
     requires i_bound { i < 63 }
-    ensures { Met (position_at full i shape) bytes.now words.old s result.shape result.state words.new }
+    ensures { Met (position_at full i shape) parser.old result parser.new }
 {
     let p = block::POSITIONS + Field::FIRST * i;
     if full {
-        return position::position(bytes, words, s, p, shape, true);
+        return position::position(parser, p, shape, true);
     }
-    updated_position(bytes, words, s, p, shape)
+    updated_position(parser, p, shape)
 }
 
-// The first `count` positions, one after another, of a scene (`full`) or of an update.
+// The positions, one after another, of a scene (`full`) or of an update: each takes the place of its shape. If the reading ends,
+// those before its end stand in their places.
 pub fn positions(
-    bytes: &[u8],
-    words: &mut [u64],
-    s: State,
-    shapes: [PositionSyntax; 63],
-    count: usize,
+    parser: &mut Parser<'_>,
+    shapes: &mut [PositionSyntax],
     full: bool,
-) -> TakenShapes
-    requires sound { Sound s }
-    requires count_bound { count ≤ 63 }
-    requires by_index { (i : ℕ) → i < count → Shaped (get_or shapes i default) }
-    ensures { Positioned (positions full (take count shapes)) count bytes.now words.old s shapes result.shapes result.state words.new }
+) -> Result<(), Reason>
+    requires shapes_bound { length shapes.old ≤ 63 }
+    requires by_index { (i : ℕ) → i < length shapes.old → Shaped (get_or shapes.old i default) }
+    ensures { Met (positions full shapes.old) parser.old (giving shapes.new result) parser.new }
 {
-    let mut next = shapes;
-    let mut t = s;
-    let mut i: usize = 0;
-    while i < count && t.is_read() {
-        let shape = next[i];
-        let a = position_at(bytes, words, t, i as u64, shape, full);
-        t = a.state;
-        let to = a.shape;
-        next[i] = to;
-        i += 1;
+    for i in 0..shapes.len() {
+        shapes[i] = tri!(position_at(parser, i as u64, shapes[i], full));
     }
-    TakenShapes {
-        state: t,
-        shapes: next,
-    }
+    Ok(())
 }

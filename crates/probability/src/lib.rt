@@ -1,22 +1,14 @@
 // The probabilities of a table whose names begin with the word `q`: passive_compression.rs, the tables of types 1 and 2.
 #![tactic(auto)]
 
-ghost use Rattle.std.specs.Prelude.{◌≡◌, ◌+◌, ◌*◌, ◌≤◌, ◌<◌, ◌^◌};
+ghost use Rattle.std.specs.Prelude.{◌≡◌, ◌+◌, ◌*◌, ◌≤◌, ◌<◌, ◌^◌, IfOk};
 ghost use Rattle.std.specs.Float.Ieee.Scale.{finite};
 ghost use Rattle.rules.specs.Derived.{fold};
-ghost use Rattle.rules.specs.Met.{Met, Sound};
-ghost use Rattle.fields.specs.Taken.{Took};
+ghost use Rattle.parser.specs.Met.{Met};
 ghost use Rattle.probability.specs.Probability.{from_bits, is_probability, add_float, floats, add_integer, integers, probabilities};
 
-use reader::Taken;
-use rules::{Field, State, leaf};
-
-// A sum in binary32, and the reading after it.
-#[derive(Clone, Copy)]
-struct Summed {
-    state: State,
-    sum: f32,
-}
+use parser::{Parser, tri};
+use rules::{Field, Reason, leaf};
 
 // `f32::is_finite`, asked of the pattern.
 pub fn is_finite(raw: u32) -> bool
@@ -40,141 +32,100 @@ fn is_probability(raw: u32) -> bool
 }
 
 // Value `j` at precision 32, added to those before it.
-fn add_float(bytes: &[u8], words: &mut [u64], s: State, q: u64, j: u64, sum: f32) -> Summed
-    requires sound { Sound s }
+fn add_float(parser: &mut Parser<'_>, q: u64, j: u64, sum: f32) -> Result<f32, Reason>
     requires q_bound { q < 2 ^ 38 }
     requires j_bound { j < 4096 }
-    ensures { Met (add_float q j sum) bytes.now words.old s result.sum result.state words.new }
+    ensures { Met (add_float q j sum) parser.old result parser.new }
 {
-    let v = fields::take(
-        bytes,
-        words,
-        s,
-        q + leaf::VALUES_ENCODED + Field::THIRD * j,
-        32,
-    );
-    let s1 = v.state;
-    let raw = v.value as u32;
+    let raw = tri!(parser.take(q + leaf::VALUES_ENCODED + Field::THIRD * j, 32)) as u32;
     if is_probability(raw) {
-        return Summed {
-            state: s1,
-            sum: sum + f32::from_bits(raw),
-        };
+        return Ok(sum + f32::from_bits(raw));
     }
-    let s2 = reader::invalid(s1, 22);
-    Summed { state: s2, sum }
+    Err(Reason::BadProbabilities)
 }
 
 // The sum of `n` values at precision 32, in order.
-fn sum_floats(bytes: &[u8], words: &mut [u64], s: State, q: u64, n: u64) -> Summed
-    requires sound { Sound s }
+fn sum_floats(parser: &mut Parser<'_>, q: u64, n: u64) -> Result<f32, Reason>
     requires q_bound { q < 2 ^ 38 }
     requires n_bound { n ≤ 4096 }
-    ensures { Met (fold (add_float q) 0 n (from_bits 0)) bytes.now words.old s result.sum result.state words.new }
+    ensures { Met (fold (add_float q) 0 n (from_bits 0)) parser.old result parser.new }
 {
-    let mut t = s;
     let mut sum: f32 = 0.0;
-    let mut j: u64 = 0;
-    while j < n && t.is_read() {
-        let v = add_float(bytes, words, t, q, j, sum);
-        t = v.state;
-        sum = v.sum;
-        j += 1;
+    for j in 0..n {
+        sum = tri!(add_float(parser, q, j, sum));
     }
-    Summed { state: t, sum }
+    Ok(sum)
 }
 
 // The values at precision 32, which come to exactly 1.
-fn floats(bytes: &[u8], words: &mut [u64], s: State, q: u64, n: u64) -> State
-    requires sound { Sound s }
+fn floats(parser: &mut Parser<'_>, q: u64, n: u64) -> Result<(), Reason>
     requires q_bound { q < 2 ^ 38 }
     requires n_bound { n ≤ 4096 }
-    ensures { Met (floats q n) bytes.now words.old s tt result words.new }
+    ensures { Met (floats q n) parser.old result parser.new }
 {
-    let v = sum_floats(bytes, words, s, q, n);
-    let s1 = v.state;
-    reader::demand(s1, v.sum == 1.0, 22)
+    let sum = tri!(sum_floats(parser, q, n));
+    if sum == 1.0 {
+        return Ok(());
+    }
+    Err(Reason::BadProbabilities)
 }
 
 // Value `j` at another precision, added to those before it.
 fn add_integer(
-    bytes: &[u8],
-    words: &mut [u64],
-    s: State,
+    parser: &mut Parser<'_>,
     q: u64,
-    w: usize,
+    width: usize,
     j: u64,
     sum: u64,
-) -> Taken
-    requires sound { Sound s }
+) -> Result<u64, Reason>
     requires q_bound { q < 2 ^ 38 }
-    requires w_bound { w ≤ 32 }
+    requires width_bound { width ≤ 32 }
     requires j_bound { j < 4096 }
     requires sum_bound { sum ≤ 2 ^ 32 * j }
-    ensures { Took (add_integer q w j sum) (2 ^ 32 * (j + 1) + 1) bytes.now words.old s result.value result.state words.new }
+    ensures met { Met (add_integer q width j sum) parser.old result parser.new }
+    ensures small { IfOk result (λ v. v < 2 ^ 32 * (j + 1) + 1) }
 {
-    let v = fields::take(
-        bytes,
-        words,
-        s,
-        q + leaf::VALUES_ENCODED + Field::THIRD * j,
-        w,
-    );
-    let s1 = v.state;
-    Taken {
-        state: s1,
-        value: sum + v.value,
-    }
+    let raw = tri!(parser.take(q + leaf::VALUES_ENCODED + Field::THIRD * j, width));
+    Ok(sum + raw)
 }
 
 // The sum of `n` values at another precision.
-fn sum_integers(bytes: &[u8], words: &mut [u64], s: State, q: u64, w: usize, n: u64) -> Taken
-    requires sound { Sound s }
+fn sum_integers(parser: &mut Parser<'_>, q: u64, width: usize, n: u64) -> Result<u64, Reason>
     requires q_bound { q < 2 ^ 38 }
-    requires w_bound { w ≤ 32 }
+    requires width_bound { width ≤ 32 }
     requires n_bound { n ≤ 4096 }
-    ensures { Met (fold (add_integer q w) 0 n 0) bytes.now words.old s result.value result.state words.new }
+    ensures { Met (fold (add_integer q width) 0 n 0) parser.old result parser.new }
 {
-    let mut t = s;
     let mut sum: u64 = 0;
-    let mut j: u64 = 0;
-    while j < n && t.is_read() {
-        let v = add_integer(bytes, words, t, q, w, j, sum);
-        t = v.state;
-        sum = v.value;
-        j += 1;
+    for j in 0..n {
+        sum = tri!(add_integer(parser, q, width, j, sum));
     }
-    Taken {
-        state: t,
-        value: sum,
-    }
+    Ok(sum)
 }
 
 // The values at another precision, which do not come to 0.
-fn integers(bytes: &[u8], words: &mut [u64], s: State, q: u64, w: usize, n: u64) -> State
-    requires sound { Sound s }
+fn integers(parser: &mut Parser<'_>, q: u64, width: usize, n: u64) -> Result<(), Reason>
     requires q_bound { q < 2 ^ 38 }
-    requires w_bound { w ≤ 32 }
+    requires width_bound { width ≤ 32 }
     requires n_bound { n ≤ 4096 }
-    ensures { Met (integers q w n) bytes.now words.old s tt result words.new }
+    ensures { Met (integers q width n) parser.old result parser.new }
 {
-    let v = sum_integers(bytes, words, s, q, w, n);
-    let s1 = v.state;
-    reader::demand(s1, v.value != 0, 22)
+    let sum = tri!(sum_integers(parser, q, width, n));
+    if sum == 0 {
+        return Err(Reason::BadProbabilities);
+    }
+    Ok(())
 }
 
 // The `n` values of a table.
-pub fn probabilities(bytes: &[u8], words: &mut [u64], s: State, q: u64, n: u64) -> State
-    requires sound { Sound s }
+pub fn probabilities(parser: &mut Parser<'_>, q: u64, n: u64) -> Result<(), Reason>
     requires q_bound { q < 2 ^ 38 }
     requires n_bound { n ≤ 4096 }
-    ensures { Met (probabilities q n) bytes.now words.old s tt result words.new }
+    ensures { Met (probabilities q n) parser.old result parser.new }
 {
-    let v = fields::take(bytes, words, s, q + leaf::VALUE_WIDTH_MINUS_ONE, 5);
-    let s1 = v.state;
-    let w = v.value as usize + 1;
-    if w == 32 {
-        return floats(bytes, words, s1, q, n);
+    let width = tri!(parser.take(q + leaf::VALUE_WIDTH_MINUS_ONE, 5)) as usize + 1;
+    if width == 32 {
+        return floats(parser, q, n);
     }
-    integers(bytes, words, s1, q, w, n)
+    integers(parser, q, width, n)
 }

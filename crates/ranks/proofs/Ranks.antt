@@ -7,9 +7,9 @@ use native.Mathlib.Omega.{arith}
 use native.Mathlib.Nat.{zero-add, suc-add, add-zero}
 use native.Mathlib.Decide.{ℕ_discrete, dec_lt}
 use lib.ListN.{length}
-use Rattle.ranks.specs.declared.Chain.{Chain}
-use Rattle.ranks.specs.declared.Chain.TheVariants.{Ends, Leaves, Returns}
-use Rattle.ranks.specs.Rank.{parent_of, Declared, RankRule, Ranks, HaveRanks, above, Passes, HasRank, GoesOut, GoesRound, Ranked, RankedBefore, Judged, all_ranked, first_out, first_round, ForParents, rank_in, rank_of, climb, chain, on_chain, judge, verdict}
+use Rattle.std.specs.Prelude.{Ok, Err}
+use Rattle.rules.specs.declared.reason.Reason.TheVariants.{ParentUndeclared, ParentsInCircle}
+use Rattle.ranks.specs.Rank.{Chain, parent_of, Declared, RankRule, Ranks, HaveRanks, above, Passes, HasRank, GoesOut, GoesRound, Ranked, RankedBefore, Judged, all_ranked, first_out, first_round, ForParents, rank_in, rank_of, climb, chain, on_chain, judge, verdict}
 use Rattle.ranks.proofs.Pigeons.{Twice, pigeons}
 use Rattle.ranks.proofs.Chains.{climb_none, climb_end, climb_out, climb_up}
 
@@ -54,14 +54,14 @@ module _ (ps : List ℕ) where
 
   -- what a chain is found to do when `f` of its numbers are looked at, after `k` positions
   data Found (f k i : ℕ) : Chain → Type 0 where
-    ends : {m : ℕ} → HasRank ps i m → Found f k i (Ends (k + m))
-    leaves : GoesOut ps i → Found f k i Leaves
-    goes_on : Passes ps f i → Found f k i Returns
+    ends : {m : ℕ} → HasRank ps i m → Found f k i (Ok (k + m))
+    leaves : GoesOut ps i → Found f k i (Err ParentUndeclared)
+    goes_on : Passes ps f i → Found f k i (Err ParentsInCircle)
 
   found_more : {f k i : ℕ} {c : Chain} → Declared ps i → Found f (suc k) (parent_of ps i) c → Found (suc f) k i c
   found_more {f} {k} {i} d (ends {m} h) =
       let e : k + suc m ≡ suc k + m = omega arith in
-      subst (λ (n : ℕ). Found (suc f) k i (Ends n)) e (ends (rank_more d h))
+      subst (λ (n : ℕ). Found (suc f) k i (Ok n)) e (ends (rank_more d h))
   found_more d (leaves h) = leaves (out_more d h)
   found_more d (goes_on h) = goes_on (passes_more d h)
 
@@ -73,7 +73,7 @@ module _ (ps : List ℕ) where
           Found (suc f) k i (climb ps (suc f) k i)
       at (yes e) q up =
           rw (climb_end ps (suc f) k i (omega arith) e, e)
-          (subst (λ (n : ℕ). Found (suc f) k 0 (Ends n)) (add-zero k) (ends rank_zero))
+          (subst (λ (n : ℕ). Found (suc f) k 0 (Ok n)) (add-zero k) (ends rank_zero))
       at (no n) (yes l) up = rw (climb_out ps (suc f) k i (omega arith) l) (leaves (out_now l))
       at (no n) (no m) up =
           let d : Declared ps i = record { from = omega arith; to = omega arith } in
@@ -81,9 +81,9 @@ module _ (ps : List ℕ) where
 
   -- what the chain of a number does
   data Does (i : ℕ) : Chain → Type 0 where
-    ends : {r : ℕ} → HasRank ps i r → Does i (Ends r)
-    leaves : GoesOut ps i → Does i Leaves
-    returns : GoesRound ps i → Does i Returns
+    ends : {r : ℕ} → HasRank ps i r → Does i (Ok r)
+    leaves : GoesOut ps i → Does i (Err ParentUndeclared)
+    returns : GoesRound ps i → Does i (Err ParentsInCircle)
 
   -- one number more than there are positions cannot all be different
   goes_round : (i : ℕ) → Passes ps (suc (length ps)) i → GoesRound ps i
@@ -100,7 +100,7 @@ module _ (ps : List ℕ) where
       }
 
   does_by : {i : ℕ} {c : Chain} → Found (suc (length ps)) 0 i c → Does i c
-  does_by {i} (ends {m} h) = subst (λ (n : ℕ). Does i (Ends n)) (sym (zero-add m)) (ends h)
+  does_by {i} (ends {m} h) = subst (λ (n : ℕ). Does i (Ok n)) (sym (zero-add m)) (ends h)
   does_by (leaves h) = leaves h
   does_by {i} (goes_on h) = returns (goes_round i h)
 
@@ -169,11 +169,11 @@ module _ (ps : List ℕ) where
   rank_pos {i} zero p h = absurd (omega (arith, h.ends, above_zero i))
   rank_pos (suc r) p h = omega arith
 
-  pub rank_computed : {i r : ℕ} → HasRank ps i r → chain ps i ≡ Ends r
+  pub rank_computed : {i r : ℕ} → HasRank ps i r → chain ps i ≡ Ok r
   rank_computed {i} {r} h = by (does i)
     where
-      by : {c : Chain} → Does i c → c ≡ Ends r
-      by (ends g) = ap Ends (rank_unique g h)
+      by : {c : Chain} → Does i c → c ≡ Ok r
+      by (ends g) = ap Ok (rank_unique g h)
       by (leaves g) = absurd (out_no_rank g h)
       by (returns g) = absurd (round_no_rank g h)
 

@@ -1,9 +1,10 @@
 -- Which positions have a rank, and what validation says of their parents.
 -- A list `ps` has the parents of positions 1 to its length; 0 is no parent.
-use Rattle.std.specs.Prelude.{ℕ, zero, suc, ◌-◌, ◌≤◌, ◌<◌, ◌≡◌, List, ◌⊎◌, length, get_or, leb, eqb}
+use Rattle.std.specs.Prelude.{ℕ, zero, suc, ◌-◌, ◌≤◌, ◌<◌, ◌≡◌, List, ◌⊎◌, Result, Ok, Err, length, get_or, leb, eqb}
 use Rattle.rules.specs.Rule.{pick}
-use Rattle.ranks.specs.declared.Chain.{Chain}
-use Rattle.ranks.specs.declared.Chain.TheVariants.{Ends, Leaves, Returns}
+use Rattle.rules.specs.declared.reason.Reason.{Reason}
+use Rattle.rules.specs.declared.reason.Reason.TheVariants.{ParentUndeclared, ParentsInCircle}
+use Rattle.rules.specs.Reason.{number_of}
 
 -- the parent of position i
 abbrev pub parent_of : List ℕ → ℕ → ℕ
@@ -73,10 +74,15 @@ pub data Judged (ps : List ℕ) (n : ℕ) : Type 0 where
 abbrev pub ForParents : ℕ → Type 0
 ForParents n = (n ≡ 8) ⊎ (n ≡ 9)
 
+-- What a chain of parents does, as the code tells it: it ends at 0, after as many positions as the rank says; it leaves the declared
+-- numbers; or it returns to a position.
+abbrev pub Chain : Type 0
+Chain = Result ℕ Reason
+
 -- The same, computed: the chain from i on, of which at most `f` numbers are looked at, after `k` positions.
 unfoldable pub climb : List ℕ → ℕ → ℕ → ℕ → Chain
-climb ps zero k i = Returns
-climb ps (suc f) k i = pick (eqb i 0) (Ends k) (pick (leb i (length ps)) (climb ps f (suc k) (parent_of ps i)) Leaves)
+climb ps zero k i = Err ParentsInCircle
+climb ps (suc f) k i = pick (eqb i 0) (Ok k) (pick (leb i (length ps)) (climb ps f (suc k) (parent_of ps i)) (Err ParentUndeclared))
 
 -- one number more than there are positions is enough
 abbrev pub chain : List ℕ → ℕ → Chain
@@ -84,18 +90,16 @@ chain ps i = climb ps (suc (length ps)) 0 i
 
 -- the rank of a position that has one
 abbrev pub rank_in : Chain → ℕ
-rank_in (Ends r) = r
-rank_in Leaves = 0
-rank_in Returns = 0
+rank_in (Ok r) = r
+rank_in (Err e) = 0
 
 abbrev pub rank_of : List ℕ → ℕ → ℕ
 rank_of ps i = rank_in (chain ps i)
 
 -- the number by the chain of one position, if `next` is that of the positions after it
 abbrev pub on_chain : Chain → ℕ → ℕ
-on_chain (Ends r) next = next
-on_chain Leaves next = 8
-on_chain Returns next = 9
+on_chain (Ok r) next = next
+on_chain (Err e) next = number_of e
 
 -- the number by the n positions after i
 unfoldable pub judge : List ℕ → ℕ → ℕ → ℕ

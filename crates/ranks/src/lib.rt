@@ -2,55 +2,39 @@
 #![tactic(auto)]
 
 ghost use Rattle.std.specs.Prelude.{◌≡◌};
+ghost use Rattle.parser.specs.Begun.{IsRefusal, asked};
 ghost use Rattle.ranks.specs.Rank.{chain, rank_of, verdict};
 
-// What a chain of parents does: it ends at 0, after as many positions as the rank says; it leaves the declared
-// numbers; or it returns to a position.
-#[derive(Clone, Copy)]
-pub enum Chain {
-    Ends(usize),
-    Leaves,
-    Returns,
-}
+use parser::tri;
+use rules::Reason;
 
-// The chain of the number `first`. A chain of more numbers than there are positions has one of them twice.
-fn climb(parents: &[usize], first: usize) -> Chain
+// What the chain of the number `first` does: it ends at 0, after as many positions as the rank says; it leaves the declared numbers;
+// or it returns to a position. A chain of more numbers than there are positions has one of them twice.
+fn climb(parents: &[usize], first: usize) -> Result<usize, Reason>
     ensures { result ≡ chain parents.now first }
 {
     let mut at = first;
-    let mut passed = 0;
-    while passed <= parents.len() {
+    for passed in 0..parents.len() + 1 {
         if at == 0 {
-            return Chain::Ends(passed);
+            return Ok(passed);
         }
         if at > parents.len() {
-            return Chain::Leaves;
+            return Err(Reason::ParentUndeclared);
         }
         at = parents[at - 1];
-        passed += 1;
     }
-    Chain::Returns
+    Err(Reason::ParentsInCircle)
 }
 
-// The number for a list of parents: the lowest-numbered position without a rank decides.
-pub fn judge(parents: &[usize]) -> u16
-    ensures { result ≡ verdict parents.now }
+// What is said of a list of parents: the lowest-numbered position without a rank decides.
+pub fn judge(parents: &[usize]) -> Result<(), Reason>
+    ensures number { asked result ≡ verdict parents.now }
+    ensures refuses { IsRefusal result }
 {
-    let mut i = 0;
-    while i < parents.len() {
-        match climb(parents, i + 1) {
-            Chain::Ends(_) => {
-                i += 1;
-            }
-            Chain::Leaves => {
-                return 8;
-            }
-            Chain::Returns => {
-                return 9;
-            }
-        }
+    for i in 0..parents.len() {
+        tri!(climb(parents, i + 1));
     }
-    0
+    Ok(())
 }
 
 // The rank of a position, 0 if it has none.
@@ -58,8 +42,7 @@ pub fn rank(parents: &[usize], position: usize) -> usize
     ensures { result ≡ rank_of parents.now position }
 {
     match climb(parents, position) {
-        Chain::Ends(rank) => rank,
-        Chain::Leaves => 0,
-        Chain::Returns => 0,
+        Ok(rank) => rank,
+        Err(_) => 0,
     }
 }

@@ -2,264 +2,211 @@
 // names of a parameter begin with the word `q`.
 #![tactic(auto)]
 
-ghost use Rattle.std.specs.Prelude.{◌+◌, ◌≤◌, ◌<◌, ◌^◌};
+ghost use Rattle.std.specs.Prelude.{◌+◌, ◌≤◌, ◌<◌, ◌^◌, IfOk};
 ghost use Rattle.rules.specs.Leaf.{renderer_values};
-ghost use Rattle.rules.specs.Met.{Met, Sound};
-ghost use Rattle.fields.specs.Taken.{Took, Narrow};
+ghost use Rattle.parser.specs.Met.{Met};
+ghost use Rattle.parser.specs.Widths.{Narrow};
 ghost use Rattle.common.specs.Common.{values};
 ghost use Rattle.renderer_kinds.specs.Kinds.{legacy_spread, spread_width, spread_values, spread, encoded_flag, region, each_region, regions, regions_unless_all, encoded_if_one, flag_and_encoded, single_region, single_region_if_present, order_and_encoded, encoded_unless_zero};
 
-use reader::Taken;
-use rules::{Field, State, leaf};
+use parser::{Parser, tri};
+use rules::{Field, Reason, leaf};
 
 // Three numbers: kinds 5 and 13.
-pub fn three_values(bytes: &[u8], words: &mut [u64], s: State, q: u64, widths: [usize; 3]) -> State
-    requires sound { Sound s }
+pub fn three_values(parser: &mut Parser<'_>, q: u64, widths: [usize; 3]) -> Result<(), Reason>
     requires q_bound { q < 2 ^ 38 }
     requires narrow { Narrow widths }
-    ensures { Met (values (q + renderer_values) widths) bytes.now words.old s tt result words.new }
+    ensures { Met (values (q + renderer_values) widths) parser.old result parser.new }
 {
-    common::values(bytes, words, s, q + leaf::RENDERER_VALUES, &widths)
+    common::values(parser, q + leaf::RENDERER_VALUES, &widths)
 }
 
 // Kind 1, with `legacy_spread`.
-fn legacy_spread(bytes: &[u8], words: &mut [u64], s: State, q: u64) -> State
-    requires sound { Sound s }
-    requires q_bound { q < 2 ^ 38 }
-    ensures { Met (legacy_spread q) bytes.now words.old s tt result words.new }
+fn legacy_spread(parser: &mut Parser<'_>, q: u64) -> Result<(), Reason>
+    requires { q < 2 ^ 38 }
+    ensures { Met (legacy_spread q) parser.old result parser.new }
 {
-    let a = fields::flag(bytes, words, s, q + leaf::HEIGHT_PRESENT);
-    let s1 = a.state;
+    let height_present = tri!(parser.flag(q + leaf::HEIGHT_PRESENT));
     let widths: [usize; 2] = [9, 8];
-    let s2 = common::values(bytes, words, s1, q + leaf::RENDERER_VALUES, &widths);
-    if a.value {
-        return common::number(bytes, words, s2, q + leaf::HEIGHT_ENCODED, 6);
+    tri!(common::values(parser, q + leaf::RENDERER_VALUES, &widths));
+    if height_present {
+        return common::number(parser, q + leaf::HEIGHT_ENCODED, 6);
     }
-    s2
+    Ok(())
 }
 
 // Kind 1, without `legacy_spread`: the width of its numbers.
-fn spread_width(bytes: &[u8], words: &mut [u64], s: State, q: u64) -> Taken
-    requires sound { Sound s }
-    requires q_bound { q < 2 ^ 38 }
-    ensures { Took (spread_width q) 37 bytes.now words.old s result.value result.state words.new }
+fn spread_width(parser: &mut Parser<'_>, q: u64) -> Result<u64, Reason>
+    requires { q < 2 ^ 38 }
+    ensures met { Met (spread_width q) parser.old result parser.new }
+    ensures small { IfOk result (λ v. v < 37) }
 {
-    let a = fields::flag(bytes, words, s, q + leaf::RANGE_DYNAMIC);
-    let s1 = a.state;
-    let b = fields::take(bytes, words, s1, q + leaf::PRECISION_ENCODED, 4);
-    let s2 = b.state;
-    Taken {
-        state: s2,
-        value: b.value * 2 + 6,
-    }
+    tri!(parser.flag(q + leaf::RANGE_DYNAMIC));
+    let precision = tri!(parser.take(q + leaf::PRECISION_ENCODED, 4));
+    Ok(precision * 2 + 6)
 }
 
 // Kind 1, without `legacy_spread`: its numbers, two or three.
-fn spread_values(bytes: &[u8], words: &mut [u64], s: State, q: u64, width: usize) -> State
-    requires sound { Sound s }
+fn spread_values(parser: &mut Parser<'_>, q: u64, width: usize) -> Result<(), Reason>
     requires q_bound { q < 2 ^ 38 }
     requires width_bound { width ≤ 64 }
-    ensures { Met (spread_values q width) bytes.now words.old s tt result words.new }
+    ensures { Met (spread_values q width) parser.old result parser.new }
 {
-    let a = fields::flag(bytes, words, s, q + leaf::THIRD_DIMENSION);
-    let s1 = a.state;
-    let b = fields::take(bytes, words, s1, q + leaf::RANGE_ENCODED, 4);
-    let s2 = b.state;
-    if a.value {
+    let third_dimension = tri!(parser.flag(q + leaf::THIRD_DIMENSION));
+    tri!(parser.take(q + leaf::RANGE_ENCODED, 4));
+    if third_dimension {
         let widths = [width; 3];
-        return common::values(bytes, words, s2, q + leaf::RENDERER_VALUES, &widths);
+        return common::values(parser, q + leaf::RENDERER_VALUES, &widths);
     }
     let widths = [width; 2];
-    common::values(bytes, words, s2, q + leaf::RENDERER_VALUES, &widths)
+    common::values(parser, q + leaf::RENDERER_VALUES, &widths)
 }
 
 // Kind 1: a spread, legacy or not.
-pub fn spread(bytes: &[u8], words: &mut [u64], s: State, q: u64) -> State
-    requires sound { Sound s }
-    requires q_bound { q < 2 ^ 38 }
-    ensures { Met (spread q) bytes.now words.old s tt result words.new }
+pub fn spread(parser: &mut Parser<'_>, q: u64) -> Result<(), Reason>
+    requires { q < 2 ^ 38 }
+    ensures { Met (spread q) parser.old result parser.new }
 {
-    let a = fields::flag(bytes, words, s, q + leaf::LEGACY_SPREAD);
-    let s1 = a.state;
-    if a.value {
-        return legacy_spread(bytes, words, s1, q);
+    let legacy = tri!(parser.flag(q + leaf::LEGACY_SPREAD));
+    if legacy {
+        return legacy_spread(parser, q);
     }
-    let width = spread_width(bytes, words, s1, q);
-    let s2 = width.state;
-    spread_values(bytes, words, s2, q, width.value as usize)
+    let width = tri!(spread_width(parser, q));
+    spread_values(parser, q, width as usize)
 }
 
 // Kinds 6, 14 and 21: a flag.
-pub fn encoded_flag(bytes: &[u8], words: &mut [u64], s: State, q: u64) -> State
-    requires sound { Sound s }
-    requires q_bound { q < 2 ^ 38 }
-    ensures { Met (encoded_flag q) bytes.now words.old s tt result words.new }
+pub fn encoded_flag(parser: &mut Parser<'_>, q: u64) -> Result<(), Reason>
+    requires { q < 2 ^ 38 }
+    ensures { Met (encoded_flag q) parser.old result parser.new }
 {
-    let a = fields::flag(bytes, words, s, q + leaf::ENCODED);
-    a.state
+    tri!(parser.flag(q + leaf::ENCODED));
+    Ok(())
 }
 
 // One region of kind 7, whose names begin with `r`.
-fn region(bytes: &[u8], words: &mut [u64], s: State, r: u64, cartesian: bool) -> State
-    requires sound { Sound s }
-    requires r_bound { r < 2 ^ 51 }
-    ensures { Met (region r cartesian) bytes.now words.old s tt result words.new }
+fn region(parser: &mut Parser<'_>, r: u64, cartesian: bool) -> Result<(), Reason>
+    requires { r < 2 ^ 51 }
+    ensures { Met (region r cartesian) parser.old result parser.new }
 {
-    let a = fields::flag(bytes, words, s, r + leaf::REGION_PREDEFINED);
-    let s1 = a.state;
-    if a.value {
-        return common::number(bytes, words, s1, r + leaf::REGION_INDEX, 4);
+    let predefined = tri!(parser.flag(r + leaf::REGION_PREDEFINED));
+    if predefined {
+        return common::number(parser, r + leaf::REGION_INDEX, 4);
     }
     if cartesian {
         let widths: [usize; 6] = [8; 6];
-        return fields::passive_values(
-            bytes,
-            words,
-            s1,
-            r + leaf::REGION_ENCODED,
-            Field::FOURTH,
-            &widths,
-        );
+        return parser.passive_values(r + leaf::REGION_ENCODED, Field::FOURTH, &widths);
     }
     let widths: [usize; 4] = [9, 9, 8, 8];
-    fields::passive_values(
-        bytes,
-        words,
-        s1,
-        r + leaf::REGION_ENCODED,
-        Field::FOURTH,
-        &widths,
-    )
+    parser.passive_values(r + leaf::REGION_ENCODED, Field::FOURTH, &widths)
 }
 
-// The loop over `n` regions.
-fn each_region(bytes: &[u8], words: &mut [u64], s: State, q: u64, cartesian: bool, n: u64) -> State
-    requires sound { Sound s }
+// The loop over the regions.
+fn each_region(parser: &mut Parser<'_>, q: u64, cartesian: bool, count: u64) -> Result<(), Reason>
     requires q_bound { q < 2 ^ 38 }
-    requires n_bound { n < 4097 }
-    ensures { Met (each_region q cartesian n) bytes.now words.old s tt result words.new }
+    requires count_bound { count < 4097 }
+    ensures { Met (each_region q cartesian count) parser.old result parser.new }
 {
-    let mut t = s;
-    let mut j: u64 = 0;
-    while j < n && t.is_read() {
-        t = region(bytes, words, t, q + Field::THIRD * j, cartesian);
-        j += 1;
+    for j in 0..count {
+        tri!(region(parser, q + Field::THIRD * j, cartesian));
     }
-    t
+    Ok(())
 }
 
 // Kind 7, present and not `all`: the regions.
-fn regions(bytes: &[u8], words: &mut [u64], s: State, q: u64) -> State
-    requires sound { Sound s }
-    requires q_bound { q < 2 ^ 38 }
-    ensures { Met (regions q) bytes.now words.old s tt result words.new }
+fn regions(parser: &mut Parser<'_>, q: u64) -> Result<(), Reason>
+    requires { q < 2 ^ 38 }
+    ensures { Met (regions q) parser.old result parser.new }
 {
-    let a = fields::flag(bytes, words, s, q + leaf::CARTESIAN);
-    let s1 = a.state;
-    let n = fields::drc_count(bytes, words, s1, q + leaf::COUNT, 4, 5);
-    let s2 = n.state;
-    each_region(bytes, words, s2, q, a.value, n.value)
+    let cartesian = tri!(parser.flag(q + leaf::CARTESIAN));
+    let count = tri!(parser.drc_count(q + leaf::COUNT, 4, 5));
+    each_region(parser, q, cartesian, count)
 }
 
 // Kind 7: regions.
-pub fn regions_unless_all(bytes: &[u8], words: &mut [u64], s: State, q: u64) -> State
-    requires sound { Sound s }
-    requires q_bound { q < 2 ^ 38 }
-    ensures { Met (regions_unless_all q) bytes.now words.old s tt result words.new }
+pub fn regions_unless_all(parser: &mut Parser<'_>, q: u64) -> Result<(), Reason>
+    requires { q < 2 ^ 38 }
+    ensures { Met (regions_unless_all q) parser.old result parser.new }
 {
-    let a = fields::flag(bytes, words, s, q + leaf::PRESENT);
-    let s1 = a.state;
-    if a.value {
-        let b = fields::flag(bytes, words, s1, q + leaf::ALL);
-        let s2 = b.state;
-        if b.value {
-            return s2;
+    let present = tri!(parser.flag(q + leaf::PRESENT));
+    if present {
+        let all = tri!(parser.flag(q + leaf::ALL));
+        if all {
+            return Ok(());
         }
-        return regions(bytes, words, s2, q);
+        return regions(parser, q);
     }
-    s1
+    Ok(())
 }
 
 // Kind 10: a number, which may be present only if its type is 1.
-pub fn encoded_if_one(bytes: &[u8], words: &mut [u64], s: State, q: u64) -> State
-    requires sound { Sound s }
-    requires q_bound { q < 2 ^ 38 }
-    ensures { Met (encoded_if_one q) bytes.now words.old s tt result words.new }
+pub fn encoded_if_one(parser: &mut Parser<'_>, q: u64) -> Result<(), Reason>
+    requires { q < 2 ^ 38 }
+    ensures { Met (encoded_if_one q) parser.old result parser.new }
 {
-    let a = fields::take(bytes, words, s, q + leaf::TYPE, 3);
-    let s1 = a.state;
-    if a.value == 1 {
-        return common::number_if(bytes, words, s1, q + leaf::PRESENT, q + leaf::ENCODED, 7);
+    let kind = tri!(parser.take(q + leaf::TYPE, 3));
+    if kind == 1 {
+        return common::number_if(parser, q + leaf::PRESENT, q + leaf::ENCODED, 7);
     }
-    s1
+    Ok(())
 }
 
 // Kind 12: a flag, and a number if it is present.
-pub fn flag_and_encoded(bytes: &[u8], words: &mut [u64], s: State, q: u64) -> State
-    requires sound { Sound s }
-    requires q_bound { q < 2 ^ 38 }
-    ensures { Met (flag_and_encoded q) bytes.now words.old s tt result words.new }
+pub fn flag_and_encoded(parser: &mut Parser<'_>, q: u64) -> Result<(), Reason>
+    requires { q < 2 ^ 38 }
+    ensures { Met (flag_and_encoded q) parser.old result parser.new }
 {
-    let a = fields::flag(bytes, words, s, q + leaf::FLAG);
-    let s1 = a.state;
-    common::number_if(bytes, words, s1, q + leaf::PRESENT, q + leaf::ENCODED, 9)
+    tri!(parser.flag(q + leaf::FLAG));
+    common::number_if(parser, q + leaf::PRESENT, q + leaf::ENCODED, 9)
 }
 
 // Kind 17, where it is present: an index or six numbers.
-fn single_region(bytes: &[u8], words: &mut [u64], s: State, q: u64) -> State
-    requires sound { Sound s }
-    requires q_bound { q < 2 ^ 38 }
-    ensures { Met (single_region q) bytes.now words.old s tt result words.new }
+fn single_region(parser: &mut Parser<'_>, q: u64) -> Result<(), Reason>
+    requires { q < 2 ^ 38 }
+    ensures { Met (single_region q) parser.old result parser.new }
 {
-    let a = fields::flag(bytes, words, s, q + leaf::PREDEFINED);
-    let s1 = a.state;
-    if a.value {
-        return common::number(bytes, words, s1, q + leaf::INDEX, 4);
+    let predefined = tri!(parser.flag(q + leaf::PREDEFINED));
+    if predefined {
+        return common::number(parser, q + leaf::INDEX, 4);
     }
-    let b = fields::flag(bytes, words, s1, q + leaf::CARTESIAN);
-    let s2 = b.state;
-    if b.value {
+    let cartesian = tri!(parser.flag(q + leaf::CARTESIAN));
+    if cartesian {
         let widths: [usize; 6] = [8; 6];
-        return common::values(bytes, words, s2, q + leaf::RENDERER_VALUES, &widths);
+        return common::values(parser, q + leaf::RENDERER_VALUES, &widths);
     }
     let widths: [usize; 6] = [9, 9, 8, 8, 8, 8];
-    common::values(bytes, words, s2, q + leaf::RENDERER_VALUES, &widths)
+    common::values(parser, q + leaf::RENDERER_VALUES, &widths)
 }
 
 // Kind 17: a region, if it is present.
-pub fn single_region_if_present(bytes: &[u8], words: &mut [u64], s: State, q: u64) -> State
-    requires sound { Sound s }
-    requires q_bound { q < 2 ^ 38 }
-    ensures { Met (single_region_if_present q) bytes.now words.old s tt result words.new }
+pub fn single_region_if_present(parser: &mut Parser<'_>, q: u64) -> Result<(), Reason>
+    requires { q < 2 ^ 38 }
+    ensures { Met (single_region_if_present q) parser.old result parser.new }
 {
-    let a = fields::flag(bytes, words, s, q + leaf::PRESENT);
-    let s1 = a.state;
-    if a.value {
-        return single_region(bytes, words, s1, q);
+    let present = tri!(parser.flag(q + leaf::PRESENT));
+    if present {
+        return single_region(parser, q);
     }
-    s1
+    Ok(())
 }
 
 // Kind 19: an order and a number.
-pub fn order_and_encoded(bytes: &[u8], words: &mut [u64], s: State, q: u64) -> State
-    requires sound { Sound s }
-    requires q_bound { q < 2 ^ 38 }
-    ensures { Met (order_and_encoded q) bytes.now words.old s tt result words.new }
+pub fn order_and_encoded(parser: &mut Parser<'_>, q: u64) -> Result<(), Reason>
+    requires { q < 2 ^ 38 }
+    ensures { Met (order_and_encoded q) parser.old result parser.new }
 {
-    let s1 = common::number_unless(bytes, words, s, q + leaf::DEFAULT, q + leaf::ORDER, 4);
-    common::number(bytes, words, s1, q + leaf::ENCODED, 8)
+    tri!(common::number_unless(parser, q + leaf::DEFAULT, q + leaf::ORDER, 4));
+    common::number(parser, q + leaf::ENCODED, 8)
 }
 
 // Kind 24: a number, which may be present unless its type is 0.
-pub fn encoded_unless_zero(bytes: &[u8], words: &mut [u64], s: State, q: u64) -> State
-    requires sound { Sound s }
-    requires q_bound { q < 2 ^ 38 }
-    ensures { Met (encoded_unless_zero q) bytes.now words.old s tt result words.new }
+pub fn encoded_unless_zero(parser: &mut Parser<'_>, q: u64) -> Result<(), Reason>
+    requires { q < 2 ^ 38 }
+    ensures { Met (encoded_unless_zero q) parser.old result parser.new }
 {
-    let a = fields::take(bytes, words, s, q + leaf::TYPE, 2);
-    let s1 = a.state;
-    if a.value == 0 {
-        return s1;
+    let kind = tri!(parser.take(q + leaf::TYPE, 2));
+    if kind == 0 {
+        return Ok(());
     }
-    common::number_if(bytes, words, s1, q + leaf::PRESENT, q + leaf::ENCODED, 16)
+    common::number_if(parser, q + leaf::PRESENT, q + leaf::ENCODED, 16)
 }

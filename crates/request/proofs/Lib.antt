@@ -1,2 +1,0 @@
-pub mod Same
-pub mod Asked

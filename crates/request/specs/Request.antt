@@ -1,34 +1,27 @@
 -- What `scene-fields` is asked for, by its arguments: a word, then K after `part`, then the bit, which may be left out.
-use Rattle.std.specs.Prelude.{ℕ, List, Bool, true, ◌&&◌, eqb, leb}
-use Prim.Native.String.{String}
-use Rattle.rules.specs.Rule.{pick}
-use Rattle.text.specs.Text.{ascii, same_text}
-use Rattle.digits.specs.declared.Number.{Number}
+use Rattle.std.specs.Prelude.{ℕ, List, [], ◌∷◌, Option, Some, None, option_map, option_and_then, map, if◌then◌else◌, bytes_eq, codes}
+use Rattle.std.specs.Borrow.{Bor}
 use Rattle.digits.specs.Digits.{number_in}
 use Rattle.request.specs.declared.Request.{Request}
-use Rattle.request.specs.declared.Request.TheVariants.{Scene, Metadata, Part, Unknown}
+use Rattle.request.specs.declared.Request.TheVariants.{Scene, Metadata, Part}
 
--- whether a text is a word
-abbrev pub is_word : List ℕ → String → Bool
-is_word text word = same_text text (ascii word)
+-- the text of each argument
+abbrev pub texts_of : List (Bor (List ℕ)) → List (List ℕ)
+texts_of arguments = map (λ argument. argument.now) arguments
 
--- a number that is left out is 0
-unfoldable pub number_or_zero : Bool → List ℕ → Number
-number_or_zero given text = pick given (number_in text) (record { valid = true; value = 0 })
+-- a bit that is left out is 0, and nothing stands after it
+unfoldable pub bit_in : List (List ℕ) → Option ℕ
+bit_in [] = Some 0
+bit_in (bit ∷ []) = number_in bit
+bit_in (bit ∷ next ∷ rest) = None
 
--- The `count` arguments are `word`, `first` and `second`, empty where there are fewer.
-unfoldable pub part_request : ℕ → List ℕ → List ℕ → List ℕ → Request
-part_request count word first second =
-    let part = number_in first in
-    let bit = number_or_zero (eqb count 3) second in
-    pick (is_word word "part" && (leb count 3 && (part.valid && bit.valid))) (Part part.value bit.value) Unknown
+unfoldable pub part_in : List (List ℕ) → Option Request
+part_in [] = None
+part_in (part ∷ rest) = option_and_then (λ k. option_map (λ bit. Part k bit) (bit_in rest)) (number_in part)
 
-unfoldable pub request_of : ℕ → List ℕ → List ℕ → List ℕ → Request
-request_of count word first second =
-    let bit = number_or_zero (eqb count 2) first in
-    let whole = leb count 2 && bit.valid in
-    pick (is_word word "scene" && whole)
-    (Scene bit.value)
-    (pick (is_word word "metadata" && whole)
-    (Metadata bit.value)
-    (part_request count word first second))
+unfoldable pub request_of : List (List ℕ) → Option Request
+request_of [] = None
+request_of (word ∷ rest) =
+    if bytes_eq word (codes "scene") then option_map Scene (bit_in rest)
+    else (if bytes_eq word (codes "metadata") then option_map Metadata (bit_in rest)
+    else (if bytes_eq word (codes "part") then part_in rest else None))

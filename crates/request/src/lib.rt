@@ -2,63 +2,58 @@
 #![tactic(auto)]
 
 ghost use Rattle.std.specs.Prelude.{◌≡◌};
-ghost use Rattle.text.specs.Text.{same_text};
-ghost use Rattle.request.specs.Request.{number_or_zero, part_request, request_of};
+ghost use Rattle.digits.specs.Digits.{number_in};
+ghost use Rattle.request.specs.Request.{texts_of, bit_in, part_in, request_of};
 
-use digits::Number;
-
-// The bit at which a scene or a metadata configuration begins; or a part of a show, and the bit of it; or nothing known.
+// The bit at which a scene or a metadata configuration begins; or a part of a show, and the bit of it.
 #[derive(Clone, Copy)]
 pub enum Request {
     Scene(usize),
     Metadata(usize),
     Part(usize, usize),
-    Unknown,
 }
 
-// Whether two texts are the same.
-fn same_text(a: &[u8], b: &[u8]) -> bool
-    ensures { result ≡ same_text a.now b.now }
+// The number that an argument is.
+fn number(argument: &[u8]) -> Option<usize>
+    ensures { result ≡ number_in argument.now }
 {
-    a == b
+    Some(digits::number_in(argument)? as usize)
 }
 
-// The number that a text is, or 0 where it is left out.
-fn number_or_zero(given: bool, text: &[u8]) -> Number
-    ensures { result ≡ number_or_zero given text.now }
+// The bit that the last argument is, or 0 where it is left out.
+#[tactic(auto, unfolding(crate::specs::Request::bit_in))]
+fn bit(arguments: &[&[u8]]) -> Option<usize>
+    ensures { result ≡ bit_in (texts_of arguments.now) }
 {
-    if given {
-        return digits::number_in(text);
-    }
-    Number {
-        valid: true,
-        value: 0,
+    match *arguments {
+        [] => Some(0),
+        [bit] => number(bit),
+        _ => None,
     }
 }
 
-// A part, and the bit of it.
-fn part_request(count: usize, word: &[u8], first: &[u8], second: &[u8]) -> Request
-    ensures { result ≡ part_request count word.now first.now second.now }
+// A part of a show, and the bit of it.
+#[tactic(auto, unfolding(crate::specs::Request::part_in))]
+fn part(arguments: &[&[u8]]) -> Option<Request>
+    ensures { result ≡ part_in (texts_of arguments.now) }
 {
-    let part = digits::number_in(first);
-    let bit = number_or_zero(count == 3, second);
-    if same_text(word, b"part") & ((count <= 3) & (part.valid & bit.valid)) {
-        return Request::Part(part.value as usize, bit.value as usize);
-    }
-    Request::Unknown
+    let (part, rest) = arguments.split_first()?;
+    Some(Request::Part(number(part)?, bit(rest)?))
 }
 
-// What the `count` arguments ask for: `word`, `first` and `second`, empty where there are fewer.
-pub fn request_of(count: usize, word: &[u8], first: &[u8], second: &[u8]) -> Request
-    ensures { result ≡ request_of count word.now first.now second.now }
+// What the arguments ask for, if it is anything.
+#[tactic(auto, unfolding(crate::specs::Request::request_of))]
+pub fn request_of(arguments: &[&[u8]]) -> Option<Request>
+    ensures { result ≡ request_of (texts_of arguments.now) }
 {
-    let bit = number_or_zero(count == 2, first);
-    let whole = (count <= 2) & bit.valid;
-    if same_text(word, b"scene") & whole {
-        return Request::Scene(bit.value as usize);
+    let (word, rest) = arguments.split_first()?;
+    if *word == b"scene".as_slice() {
+        Some(Request::Scene(bit(rest)?))
+    } else if *word == b"metadata".as_slice() {
+        Some(Request::Metadata(bit(rest)?))
+    } else if *word == b"part".as_slice() {
+        part(rest)
+    } else {
+        None
     }
-    if same_text(word, b"metadata") & whole {
-        return Request::Metadata(bit.value as usize);
-    }
-    part_request(count, word, first, second)
 }

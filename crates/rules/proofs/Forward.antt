@@ -6,10 +6,8 @@ use mathlib.Core.Bool.{Bool, true, false}
 use native.Mathlib.Omega.{arith}
 use lib.Dec.{ltb}
 use Rattle.bits.specs.Bits.{bits_at}
-use Rattle.rules.specs.declared.State.{State}
 use Rattle.rules.specs.Rule.{Rule, done, ends, position_then, end_then, bits_then, skip_then, field_then, set_end_then}
 use Rattle.rules.specs.Reading.{Reading, Input, reading, has_room, inside, is_read}
-use Rattle.rules.specs.Met.{Met}
 use Rattle.rules.proofs.Pick.{by_pick}
 
 abbrev From : {A : Type 0} → ℕ → Reading A → Type 0
@@ -29,11 +27,3 @@ forward i (field_then name start v k) p e n =
     (λ _. by_pick (From p) (has_room i n) _ _ (λ _. forward i k p e (n + 1)) (λ _. omega arith))
     (λ _. omega arith)
 forward i (set_end_then x k) p e n = by_pick (From p) (inside i p x) _ _ (λ _. forward i k p x n) (λ _. omega arith)
-
--- so code never does
-pub met_forward : {A : Type 0} {r : Rule A} {bs ws : List ℕ} {s : State} {a : A} {t : State} {vs : List ℕ} → Met r bs ws s a t vs → s.position ≤ t.position
-met_forward {A} {r} {bs} {ws} {s} {a} {t} x = go (is_read s.outcome) refl
-  where
-    go : (b : Bool) → is_read s.outcome ≡ b → s.position ≤ t.position
-    go true h = rw (x.going h).position (forward _ r s.position s.end s.fields)
-    go false h = rw (x.over h) (omega arith)

@@ -1,12 +1,9 @@
 pub mod Pick
+pub mod Numbered
 pub mod Words
 pub mod Bind
 pub mod Forward
 pub mod Laws
-pub mod Steps
-pub mod Left
-pub mod Each
-pub mod Fold
-pub mod Choice
 pub mod Answers
+pub mod Table
 pub mod Linked

@@ -2,8 +2,8 @@ pub mod Name
 pub mod Block
 pub mod Leaf
 pub mod Rule
+pub mod Reason
 pub mod Reading
 pub mod Derived
 pub mod Words
-pub mod Met
 pub mod Answer

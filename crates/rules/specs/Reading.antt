@@ -59,14 +59,8 @@ reading i (field_then name start v k) p e n =
     (ended_at (refused 4) p e)
 reading i (set_end_then x k) p e n = pick (inside i p x) (reading i k p x n) (ended_at (refused 3) p e)
 
--- What the code's enum stands for. A state whose outcome is `Read` has read all that was asked so far.
+-- What the code's enum stands for.
 abbrev pub is_read : Outcome → Bool
 is_read Read = true
 is_read (Refused n) = false
 is_read (Stopped n) = false
-
--- the result that an outcome gives, with the value read
-abbrev pub result_of : {A : Type 0} → Outcome → A → Result A
-result_of Read a = read a
-result_of (Refused n) a = ended (refused n)
-result_of (Stopped n) a = ended (stopped n)

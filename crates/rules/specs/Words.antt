@@ -1,10 +1,9 @@
 -- Fields as words, five for each: bit offset, bit length, kind, value, name word.
-use Rattle.std.specs.Prelude.{ℕ, ◌+◌, ◌*◌, List, [], ◌∷◌, ◌++◌, Bool, true, false, ◌&&◌, length, get_or, leb, eqb}
+use Rattle.std.specs.Prelude.{ℕ, ◌+◌, ◌*◌, Option, Some, None, List, [], ◌∷◌, ◌++◌, Bool, true, false, ◌&&◌, length, get_or, leb, eqb}
 use Rattle.std.proofs.lemmas.List.Edits.{sets}
 use Rattle.rules.specs.declared.Field.{Field}
 use Rattle.rules.specs.declared.FieldValue.{FieldValue}
 use Rattle.rules.specs.declared.FieldValue.TheVariants.{Flag, Number, Bits, Bytes}
-use Rattle.rules.specs.declared.Found.{Found}
 use Rattle.rules.specs.Rule.{pick}
 
 -- document 01's number for each kind of value
@@ -40,15 +39,15 @@ is_value kind n = pick (eqb kind 0) (leb n 1) (leb kind 3)
 abbrev pub value_from : ℕ → ℕ → FieldValue
 value_from kind n = pick (eqb kind 0) (Flag (eqb n 1)) (pick (eqb kind 1) (Number n) (pick (eqb kind 2) (Bits n) (Bytes n)))
 
-unfoldable pub field_at : List ℕ → ℕ → Found
+unfoldable pub field_at : List ℕ → ℕ → Option Field
 field_at ws i =
     let k = 5 * i in
     pick (leb (k + 5) (length ws) && is_value (get_or ws (k + 2) 0) (get_or ws (k + 3) 0))
-    (Found.Field
+    (Some
     (record {
       bit_offset = get_or ws k 0;
       bit_length = get_or ws (k + 1) 0;
       value = value_from (get_or ws (k + 2) 0) (get_or ws (k + 3) 0);
       name = get_or ws (k + 4) 0;
     }))
-    Found.Nothing
+    None

@@ -1,4 +1,4 @@
-// The reading state by value, the fields that a reading makes, and the answer that it comes to.
+// The fields that a reading makes, the answer that it comes to, and why it ended before it was done.
 #![tactic(auto)]
 
 ghost use Rattle.std.specs.Prelude.{◌≡◌};
@@ -7,9 +7,11 @@ ghost use Rattle.rules.specs.Words.{kind_of, number_of, is_value, value_from, fi
 
 pub mod block;
 pub mod leaf;
+pub mod reason;
 
-// How a reading ended, with document 01's number. In a state, `Read` is all that was asked so far. A number of 16 bits
-// leaves a state without gaps: a gap of seven bytes is copied in two pieces, slowly, wherever a state is.
+pub use reason::Reason;
+
+// How a reading ended, as it is told, with document 01's number. Callers meet numbers: the papers give them, and they cross to C.
 #[derive(Clone, Copy)]
 pub enum Outcome {
     Read,
@@ -27,17 +29,6 @@ impl Outcome {
             Outcome::Stopped(_) => false,
         }
     }
-}
-
-// `Parser` and `BitReader` by value: the next bit, the end of the window, the fields counted, whether they are
-// recorded, and the outcome. A state that was refused or stopped is left alone by every further step.
-#[derive(Clone, Copy)]
-pub struct State {
-    pub position: usize,
-    pub end: usize,
-    pub fields: usize,
-    pub recording: bool,
-    pub outcome: Outcome,
 }
 
 // What every reading answers: the outcome with its number, the bit position, and the fields counted.
@@ -64,93 +55,6 @@ pub struct Field {
     pub bit_length: usize,
     pub value: FieldValue,
     pub name: u64,
-}
-
-// A field of the lent words, or nothing where they hold none.
-#[derive(Clone, Copy)]
-pub enum Found {
-    Field(Field),
-    Nothing,
-}
-
-impl State {
-    // The greatest number of fields counted.
-    pub const FIELDS: usize = 16384;
-
-    // The greatest number of bytes of an input: `MAX_COOKIE_BYTES`.
-    pub const BYTES: usize = 8388608;
-
-    // The greatest number of positions.
-    pub const POSITIONS: usize = 63;
-
-    // The greatest count of things declared.
-    pub const COUNT: u64 = 4096;
-
-    // The greatest number of parameters, of a whole configuration and of a group's data.
-    pub const PARAMETERS: u64 = 128;
-
-    // The greatest number of bytes of a label, its zero byte included.
-    pub const LABEL: u64 = 4097;
-
-    // A reading of nothing yet, with `fields` counted before it: `Parser::new`.
-    pub fn fresh(recording: bool, fields: usize) -> State
-        ensures { result ≡ record { position = 0; end = 0; fields = fields; recording = recording; outcome = Outcome.Read } }
-    {
-        let outcome = Outcome::Read;
-        State {
-            position: 0,
-            end: 0,
-            fields,
-            recording,
-            outcome,
-        }
-    }
-
-    // The same reading, ended.
-    pub fn ended(self, outcome: Outcome) -> State
-        ensures { result ≡ record { position = self.position; end = self.end; fields = self.fields; recording = self.recording; outcome = outcome } }
-    {
-        State {
-            position: self.position,
-            end: self.end,
-            fields: self.fields,
-            recording: self.recording,
-            outcome,
-        }
-    }
-
-    // The same reading, with another position, end and count.
-    pub fn moved(self, position: usize, end: usize, fields: usize) -> State
-        ensures { result ≡ record { position = position; end = end; fields = fields; recording = self.recording; outcome = self.outcome } }
-    {
-        let outcome = self.outcome;
-        State {
-            position,
-            end,
-            fields,
-            recording: self.recording,
-            outcome,
-        }
-    }
-
-    pub fn is_read(self) -> bool
-        ensures { result ≡ is_read self.outcome }
-    {
-        let outcome = self.outcome;
-        outcome.is_read()
-    }
-
-    // What the reading has come to.
-    pub fn answer(self) -> Answer
-        ensures { result ≡ record { outcome = self.outcome; position = self.position; fields = self.fields } }
-    {
-        let outcome = self.outcome;
-        Answer {
-            outcome,
-            position: self.position,
-            fields: self.fields,
-        }
-    }
 }
 
 impl FieldValue {
@@ -215,25 +119,25 @@ impl Field {
 
     pub const FOURTH: u64 = 2251799813685248;
 
-    // The field of that index in recorded words, by value.
-    pub fn at(words: &[u64], index: usize) -> Found
+    // The field of that index in recorded words, if they hold one.
+    pub fn at(words: &[u64], index: usize) -> Option<Field>
         ensures { result ≡ field_at words.now index }
     {
         if words.len() / 5 <= index {
-            return Found::Nothing;
+            return None;
         }
         let k = 5 * index;
         let kind = words[k + 2];
         let number = words[k + 3];
         if FieldValue::is_value(kind, number) {
             let value = FieldValue::from_words(kind, number);
-            return Found::Field(Field {
+            return Some(Field {
                 bit_offset: words[k] as usize,
                 bit_length: words[k + 1] as usize,
                 value,
                 name: words[k + 4],
             });
         }
-        Found::Nothing
+        None
     }
 }

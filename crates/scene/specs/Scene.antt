@@ -1,17 +1,19 @@
 -- `scene_graph`: the field rules of a scene, and what its reading promises.
-use Rattle.std.specs.Prelude.{ℕ, ◌+◌, ◌-◌, ◌≤◌, ◌≡◌, List, [], Bool, true, length, take, drop, replicate}
-use Rattle.rules.specs.declared.State.{State}
+use Rattle.std.specs.Prelude.{ℕ, ◌+◌, ◌-◌, ◌≤◌, ◌≡◌, List, [], Bool, true, Result, Ok, Err, IfOk, length, take, drop, replicate}
+use Rattle.rules.specs.declared.reason.Reason.{Reason}
 use Rattle.rules.specs.Block as block
 use Rattle.rules.specs.Leaf as leaf
 use Rattle.rules.specs.Rule.{Rule, ◌>>=◌}
 use Rattle.rules.specs.Reading.{Reading, Input}
 use Rattle.rules.specs.Derived.{drc_count}
 use Rattle.rules.specs.Answer.{entry_reading, value_or, Answered}
+use Rattle.parser.specs.declared.Parser.{Parser}
+use Rattle.parser.specs.Met.{Met}
 use Rattle.position.specs.declared.PositionSyntax.{PositionSyntax}
 use Rattle.position.specs.Shape.{default}
 use Rattle.validation.specs.Validation.{if_valid}
 use Rattle.scene.specs.declared.SceneAnswer.{SceneAnswer}
-use Rattle.positions.specs.Positions.{positions, Positioned}
+use Rattle.positions.specs.Positions.{positions}
 
 -- the shapes of 63 positions before anything is read
 unfoldable pub defaults : List PositionSyntax
@@ -35,7 +37,12 @@ pub record SceneAnswered (x : Reading (List PositionSyntax)) (rec : Bool) (ws : 
   pub count : r.count ≡ length (value_or [] x.result)
   pub others : drop r.count r.shapes ≡ replicate (63 - r.count) default
 
--- what the functions inside it promise: there are at most 63 positions
-pub record TookScene (r : Rule (List PositionSyntax)) (bs ws : List ℕ) (s : State) (count : ℕ) (shapes : List PositionSyntax) (t : State) (vs : List ℕ) : Type 0 where
-  pub taken : Positioned r count bs ws s defaults shapes t vs
-  pub most : count ≤ 63
+-- what the functions inside it promise: the shapes of the rule are the first of 63, and the others are the default
+abbrev pub declared : List PositionSyntax → Result ℕ Reason → Result (List PositionSyntax) Reason
+declared shapes (Ok n) = Ok (take n shapes)
+declared shapes (Err e) = Err e
+
+pub record TookScene (r : Rule (List PositionSyntax)) (p : Parser) (x : Result ℕ Reason) (shapes : List PositionSyntax) (q : Parser) : Type 0 where
+  pub met : Met r p (declared shapes x) q
+  pub most : IfOk x (λ n. n ≤ 63)
+  pub others : IfOk x (λ n. drop n shapes ≡ replicate (63 - n) default)

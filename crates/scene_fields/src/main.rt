@@ -1,45 +1,70 @@
 // scene-fields: reads a scene, a metadata configuration or a show file from standard input, and prints the fields of what is
-// asked for, a line each, and then the outcome.
+// asked for, a line each, and then the outcome. What goes wrong is reported on standard error: the exit status is 2 if the
+// program was called in another way, and else 1.
 #![tactic(auto)]
-
-ghost use Rattle.std.specs.Prelude.{length, ◌≡◌, ◌≤◌};
 
 use part::PartAnswer;
 use request::Request;
 use rules::Answer;
+use std::alloc::AllocError;
 use std::env::{Env, FillError};
-use std::io;
 use std::process::ExitCode;
+use std::{fmt, io};
 
 // The most bytes of an input.
-const MOST: usize = 4194304;
-
-// One byte more, so that a longer input is seen to be longer.
-fn input_room() -> [u8; 4194305]
-    ensures { 4194305 ≡ length result }
-{
-    [0; 4194305]
-}
+const MOST: u64 = 4_194_304;
 
 // Five words for each of 16,384 fields, the most that a reading counts.
-fn word_room() -> [u64; 81920]
-    ensures { 81920 ≡ length result }
-{
-    [0; 81920]
+const WORDS: usize = 81920;
+
+// The most bytes of an argument that is a word or a number.
+const MOST_OF_ARGUMENT: usize = 32;
+
+// Why nothing, or not all, was listed.
+#[derive(Clone, Copy)]
+enum Failure {
+    Usage,
+    Input(io::Error),
+    TooLong,
+    NoPart,
+    NoScene,
+    Output(io::Error),
+    Memory,
 }
 
-// Reports on standard error what is wrong.
-fn report(rt: &impl Eprint, line: &str) -> ExitCode {
-    let _ = eprintln!(rt; "{line}");
-    ExitCode::FAILURE
-}
-
-// Reports what failed, and why.
-fn fail(rt: &(impl Eprint + AllocGlobal), what: &str, error: io::Error) -> ExitCode {
-    if let Ok(reason) = input::reason(rt.alloc(), error) {
-        let _ = eprintln!(rt; "scene-fields: {what}: {reason}");
+impl fmt::Display for Failure {
+    fn fmt<W: fmt::Write>(&self, f: &mut fmt::Formatter<W>) -> fmt::Result {
+        match self {
+            Failure::Usage => write!(f, "usage: scene-fields scene|metadata|part K [BIT] < FILE"),
+            Failure::Input(error) => write!(f, "scene-fields: standard input: {error}"),
+            Failure::TooLong => write!(
+                f,
+                "scene-fields: standard input: more than 4,194,304 bytes"
+            ),
+            Failure::NoPart => write!(f, "scene-fields: no such part in the show"),
+            Failure::NoScene => write!(
+                f,
+                "scene-fields: part 0 of the show is not read, so no update is"
+            ),
+            Failure::Output(error) => write!(f, "scene-fields: standard output: {error}"),
+            Failure::Memory => write!(f, "scene-fields: out of memory"),
+        }
     }
-    ExitCode::FAILURE
+}
+
+impl From<AllocError> for Failure {
+    fn from(_error: AllocError) -> Failure {
+        Failure::Memory
+    }
+}
+
+impl From<Failure> for ExitCode {
+    fn from(failure: Failure) -> ExitCode {
+        match failure {
+            Failure::Usage => ExitCode::from(2),
+            _ => ExitCode::FAILURE,
+        }
+    }
 }
 
 // Prints the line of field `i`.
@@ -56,129 +81,111 @@ fn print_outcome(rt: &impl Print, answer: Answer) -> io::Result<()> {
 }
 
 // Prints the lines of all fields and of the outcome, as long as they can be written.
-fn print_all(rt: &impl Print, answer: Answer, words: &[u64]) -> io::Result<()> {
+fn print(rt: &impl Print, answer: Answer, words: &[u64]) -> io::Result<()> {
     for i in 0..answer.fields {
         print_field(rt, words, i)?;
     }
     print_outcome(rt, answer)
 }
 
-fn print<R: Print + Eprint + AllocGlobal>(rt: &R, answer: Answer, words: &[u64]) -> ExitCode {
-    match print_all(rt, answer, words) {
-        Ok(()) => ExitCode::SUCCESS,
-        Err(error) => fail(rt, "standard output", error),
+// Reads what is asked for.
+fn read(request: Request, file: &[u8], words: &mut [u64]) -> Result<Answer, Failure> {
+    match request {
+        Request::Scene(bit) => Ok(scene::read_scene(file, bit, true, words).answer),
+        Request::Metadata(bit) => Ok(metadata::read_metadata(file, bit, true, words)),
+        Request::Part(k, bit) => match part::read_part(file, k, bit, words) {
+            PartAnswer::Ended(answer) => Ok(answer),
+            PartAnswer::NoPart => Err(Failure::NoPart),
+            PartAnswer::NoScene => Err(Failure::NoScene),
+        },
     }
 }
 
-// Lists part `k` of a show.
-fn list_part<R: Print + Eprint + AllocGlobal>(
-    rt: &R,
-    file: &[u8],
-    k: usize,
-    bit: usize,
-    words: &mut [u64],
-) -> ExitCode {
-    let read = part::read_part(file, k, bit, words);
-    match read {
-        PartAnswer::Ended(answer) => print(rt, answer, words),
-        PartAnswer::NoPart => report(rt, "scene-fields: no such part in the show"),
-        PartAnswer::NoScene => report(
-            rt,
-            "scene-fields: part 0 of the show is not read, so no update is",
-        ),
+// The arguments after the program's name. One that is too long for a word or a number is empty, and so is neither.
+fn arguments<R: Env + AllocGlobal>(rt: &R) -> Result<Vec<Vec<u8>>, AllocError> {
+    let mut all = Vec::new(rt.alloc());
+    for i in 1..usize::MAX {
+        let mut room = [0u8; MOST_OF_ARGUMENT];
+        match rt.arg(i, &mut room) {
+            Ok(length) => all.push(room[..length].to_vec(rt.alloc())?)?,
+            Err(FillError::TooLong) => all.push(Vec::new(rt.alloc()))?,
+            Err(FillError::NotPresent) => break,
+        }
     }
+    Ok(all)
 }
 
-fn list_scene<R: Print + Eprint + AllocGlobal>(
-    rt: &R,
-    file: &[u8],
-    bit: usize,
-    words: &mut [u64],
-) -> ExitCode {
-    let read = scene::read_scene(file, bit, true, words);
-    let answer = read.answer;
-    print(rt, answer, words)
-}
-
-fn list_metadata<R: Print + Eprint + AllocGlobal>(
-    rt: &R,
-    file: &[u8],
-    bit: usize,
-    words: &mut [u64],
-) -> ExitCode {
-    let answer = metadata::read_metadata(file, bit, true, words);
-    print(rt, answer, words)
-}
-
-// Reports how the program is called.
-fn usage(rt: &impl Eprint) -> ExitCode {
-    report(rt, "usage: scene-fields scene|metadata|part K [BIT] < FILE");
-    ExitCode::from(2)
+// What the arguments ask for, if it is anything.
+fn asked<R: Env + AllocGlobal>(rt: &R) -> Result<Option<Request>, AllocError> {
+    let arguments = arguments(rt)?;
+    let texts: Vec<&[u8]> = arguments
+        .iter()
+        .map(|text| text.as_slice())
+        .collect(rt.alloc())?;
+    Ok(request::request_of(&texts))
 }
 
 // Lists what is asked for.
-fn list<R: Print + Eprint + AllocGlobal>(rt: &R, request: Request, file: &[u8]) -> ExitCode {
-    let mut words = word_room();
-    match request {
-        Request::Scene(bit) => list_scene(rt, file, bit, &mut words),
-        Request::Metadata(bit) => list_metadata(rt, file, bit, &mut words),
-        Request::Part(k, bit) => list_part(rt, file, k, bit, &mut words),
-        Request::Unknown => usage(rt),
+fn run<R: Env + Input + Print + AllocGlobal>(rt: &R) -> Result<(), Failure> {
+    let request = asked(rt)?.ok_or(Failure::Usage)?;
+    // One byte more, so that a longer input is seen to be longer.
+    let file = input::first_bytes(rt.alloc(), rt.reader(), MOST + 1).map_err(Failure::Input)?;
+    if MOST < file.len() as u64 {
+        return Err(Failure::TooLong);
     }
-}
-
-fn list_input<R: Input + Print + Eprint + AllocGlobal>(rt: &R, request: Request) -> ExitCode {
-    let mut file = input_room();
-    let read = input::read_input(&mut rt.reader(), &mut file);
-    if let Some(error) = read.failed {
-        return fail(rt, "standard input", error);
-    }
-    let length = read.length;
-    if MOST < length {
-        return report(
-            rt,
-            "scene-fields: standard input: more than 4,194,304 bytes",
-        );
-    }
-    list(rt, request, &file[..length])
-}
-
-// How many arguments there are, the program's name included.
-fn arg_count(rt: &impl Env) -> usize {
-    for i in 0..usize::MAX {
-        if let Err(FillError::NotPresent) = rt.arg(i, &mut []) {
-            return i;
-        }
-    }
-    usize::MAX
-}
-
-// Puts argument `i` at the beginning of the lent bytes, and gives its length: 0 where it is missing or does not fit.
-fn arg(rt: &impl Env, i: usize, bytes: &mut [u8]) -> usize
-    ensures { result ≤ length bytes.new }
-{
-    rt.arg(i, bytes).unwrap_or(0)
-}
-
-// What the arguments ask for, the program's name left out. None that is longer than 32 bytes is a word or a number.
-fn asked(rt: &impl Env) -> Request {
-    let names = arg_count(rt);
-    if names < 1 {
-        return Request::Unknown;
-    }
-    let mut word = [0u8; 32];
-    let mut first = [0u8; 32];
-    let mut second = [0u8; 32];
-    let w = arg(rt, 1, &mut word);
-    let a = arg(rt, 2, &mut first);
-    let b = arg(rt, 3, &mut second);
-    request::request_of(names - 1, &word[..w], &first[..a], &second[..b])
+    let mut words = vec![in rt.alloc(); 0; WORDS]?;
+    let answer = read(request, &file, &mut words)?;
+    print(rt, answer, &words).map_err(Failure::Output)
 }
 
 fn main(rt: HostRuntime) -> ExitCode {
-    let request = asked(&rt);
-    match request {
-        Request::Unknown => usage(&rt),
-        _ => list_input(&rt, request),
+    input::exit_code(&rt, run(&rt))
+}
+
+#[cfg(test)]
+mod tests {
+    use super::*;
+    use std::test::Fail;
+
+    // A program called with the arguments `part`, forty zeros and an empty text.
+    #[derive(Drop)]
+    struct Called;
+
+    impl Env for Called {
+        fn arg(&self, i: usize, buf: &mut [u8]) -> Result<usize, FillError> {
+            if i == 1 && 4 <= buf.len() {
+                buf[..4].copy_from_slice(b"part");
+                return Ok(4);
+            }
+            match i {
+                0 | 3 => Ok(0),
+                1 | 2 => Err(FillError::TooLong),
+                _ => Err(FillError::NotPresent),
+            }
+        }
+
+        fn var(&self, _name: &str, _buf: &mut [u8]) -> Result<usize, FillError> {
+            Err(FillError::NotPresent)
+        }
+
+        fn var_at(&self, _i: usize, _buf: &mut [u8]) -> Result<usize, FillError> {
+            Err(FillError::NotPresent)
+        }
+    }
+
+    #[test]
+    fn takes_each_argument(rt: HostRuntime) -> Result<(), Fail> {
+        let all = arguments(&(Called, rt.alloc()))?;
+        assert_eq!(rt; all.len(), 3);
+        assert_eq!(rt; all[0].as_slice(), b"part".as_slice());
+        assert_eq!(rt; all[1].len(), 0);
+        assert_eq!(rt; all[2].len(), 0);
+        Ok(())
+    }
+
+    #[test]
+    fn asks_for_nothing_else(rt: HostRuntime) -> Result<(), Fail> {
+        assert!(rt; asked(&(Called, rt.alloc()))?.is_none());
+        Ok(())
     }
 }

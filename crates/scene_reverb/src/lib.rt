@@ -2,62 +2,55 @@
 #![tactic(auto)]
 
 ghost use Rattle.std.specs.Prelude.{◌<◌, ◌^◌};
-ghost use Rattle.rules.specs.Met.{Met, Sound};
+ghost use Rattle.parser.specs.Met.{Met};
 ghost use Rattle.scene_reverb.specs.SceneReverb.{index_and_reverb, resource_and_reverb, room_geometry, scene_reverb};
 
-use rules::{State, leaf};
+use parser::{Parser, tri};
+use rules::{Reason, leaf};
 
 // Kind 9, type 1: an index and a reverb.
-fn index_and_reverb(bytes: &[u8], words: &mut [u64], s: State, q: u64) -> State
-    requires sound { Sound s }
-    requires q_bound { q < 2 ^ 38 }
-    ensures { Met (index_and_reverb q) bytes.now words.old s tt result words.new }
+fn index_and_reverb(parser: &mut Parser<'_>, q: u64) -> Result<(), Reason>
+    requires { q < 2 ^ 38 }
+    ensures { Met (index_and_reverb q) parser.old result parser.new }
 {
-    let a = fields::take(bytes, words, s, q + leaf::INDEX, 10);
-    let s1 = a.state;
-    common::metadata_reverb(bytes, words, s1, q)
+    tri!(parser.take(q + leaf::INDEX, 10));
+    common::metadata_reverb(parser, q)
 }
 
 // Kind 9, type 2: a resource, an index and a reverb.
-fn resource_and_reverb(bytes: &[u8], words: &mut [u64], s: State, q: u64) -> State
-    requires sound { Sound s }
-    requires q_bound { q < 2 ^ 38 }
-    ensures { Met (resource_and_reverb q) bytes.now words.old s tt result words.new }
+fn resource_and_reverb(parser: &mut Parser<'_>, q: u64) -> Result<(), Reason>
+    requires { q < 2 ^ 38 }
+    ensures { Met (resource_and_reverb q) parser.old result parser.new }
 {
-    let s1 = common::metadata_resource(bytes, words, s, q + leaf::RESOURCE);
-    index_and_reverb(bytes, words, s1, q)
+    tri!(common::metadata_resource(parser, q + leaf::RESOURCE));
+    index_and_reverb(parser, q)
 }
 
 // Kind 9, type 3: a fallback other than 0 stops the reading.
-fn room_geometry(bytes: &[u8], words: &mut [u64], s: State, q: u64) -> State
-    requires sound { Sound s }
-    requires q_bound { q < 2 ^ 38 }
-    ensures { Met (room_geometry q) bytes.now words.old s tt result words.new }
+fn room_geometry(parser: &mut Parser<'_>, q: u64) -> Result<(), Reason>
+    requires { q < 2 ^ 38 }
+    ensures { Met (room_geometry q) parser.old result parser.new }
 {
-    let s1 = common::metadata_resource(bytes, words, s, q + leaf::RESOURCE);
-    let a = fields::take(bytes, words, s1, q + leaf::FALLBACK_TYPE, 3);
-    let s2 = a.state;
-    if a.value == 0 {
+    tri!(common::metadata_resource(parser, q + leaf::RESOURCE));
+    let fallback = tri!(parser.take(q + leaf::FALLBACK_TYPE, 3));
+    if fallback == 0 {
         let widths: [usize; 32] = [32; 32];
-        return common::values(bytes, words, s2, q + leaf::RENDERER_VALUES, &widths);
+        return common::values(parser, q + leaf::RENDERER_VALUES, &widths);
     }
-    reader::stop(s2, 31)
+    Err(Reason::RoomGeometryFallback)
 }
 
 // Kind 9: a scene reverb.
-pub fn scene_reverb(bytes: &[u8], words: &mut [u64], s: State, q: u64) -> State
-    requires sound { Sound s }
-    requires q_bound { q < 2 ^ 38 }
-    ensures { Met (scene_reverb q) bytes.now words.old s tt result words.new }
+pub fn scene_reverb(parser: &mut Parser<'_>, q: u64) -> Result<(), Reason>
+    requires { q < 2 ^ 38 }
+    ensures { Met (scene_reverb q) parser.old result parser.new }
 {
-    let a = fields::take(bytes, words, s, q + leaf::TYPE, 3);
-    let s1 = a.state;
-    let kind = a.value;
+    let kind = tri!(parser.take(q + leaf::TYPE, 3));
     match kind {
-        0 => s1,
-        1 => index_and_reverb(bytes, words, s1, q),
-        2 => resource_and_reverb(bytes, words, s1, q),
-        3 => room_geometry(bytes, words, s1, q),
-        _ => reader::invalid(s1, 13),
+        0 => Ok(()),
+        1 => index_and_reverb(parser, q),
+        2 => resource_and_reverb(parser, q),
+        3 => room_geometry(parser, q),
+        _ => Err(Reason::ReverbType),
     }
 }

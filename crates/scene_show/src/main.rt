@@ -2,17 +2,38 @@
 // printed, and 2 if it was called with arguments, which is reported on standard error.
 #![tactic(auto)]
 
-ghost use Rattle.std.specs.Prelude.{length, ◌≡◌};
-
 use std::env::{Env, FillError};
-use std::io;
 use std::process::ExitCode;
+use std::{fmt, io};
 
-// One byte more than a file may have, so that a longer one is seen to be longer.
-fn room() -> [u8; 65537]
-    ensures { 65537 ≡ length result }
-{
-    [0; 65537]
+// The most bytes of a file.
+const MOST: u64 = 65536;
+
+// Why no text, or not all of it, was printed.
+#[derive(Clone, Copy)]
+enum Failure {
+    Usage,
+    Input(io::Error),
+    Output(io::Error),
+}
+
+impl fmt::Display for Failure {
+    fn fmt<W: fmt::Write>(&self, f: &mut fmt::Formatter<W>) -> fmt::Result {
+        match self {
+            Failure::Usage => write!(f, "usage: scene-show < FILE"),
+            Failure::Input(error) => write!(f, "scene-show: standard input: {error}"),
+            Failure::Output(error) => write!(f, "scene-show: standard output: {error}"),
+        }
+    }
+}
+
+impl From<Failure> for ExitCode {
+    fn from(failure: Failure) -> ExitCode {
+        match failure {
+            Failure::Usage => ExitCode::from(2),
+            Failure::Input(_) | Failure::Output(_) => ExitCode::FAILURE,
+        }
+    }
 }
 
 // Prints the text of a file.
@@ -23,32 +44,21 @@ fn print(rt: &impl Print, file: &[u8]) -> io::Result<()> {
     rt.write_all(&text[..length])
 }
 
-// Reports what failed, and why.
-fn fail(rt: &(impl Eprint + AllocGlobal), what: &str, error: io::Error) -> io::Result<()> {
-    let reason = input::reason(rt.alloc(), error)?;
-    eprintln!(rt; "scene-show: {what}: {reason}")
-}
-
 // Whether there is an argument after the program's name.
 fn has_argument(rt: &impl Env) -> bool {
     !matches!(rt.arg(1, &mut []), Err(FillError::NotPresent))
 }
 
+// Prints the text of the file that is read.
+fn run<R: Env + Input + Print + AllocGlobal>(rt: &R) -> Result<(), Failure> {
+    if has_argument(rt) {
+        return Err(Failure::Usage);
+    }
+    // One byte more, so that a longer file is seen to be longer.
+    let file = input::first_bytes(rt.alloc(), rt.reader(), MOST + 1).map_err(Failure::Input)?;
+    print(rt, &file).map_err(Failure::Output)
+}
+
 fn main(rt: HostRuntime) -> ExitCode {
-    if has_argument(&rt) {
-        let _ = eprintln!(rt; "usage: scene-show < FILE");
-        return ExitCode::from(2);
-    }
-    let mut file = room();
-    let read = input::read_input(&mut rt.stdin(), &mut file);
-    if let Some(error) = read.failed {
-        let _ = fail(&rt, "standard input", error);
-        return ExitCode::FAILURE;
-    }
-    let length = read.length;
-    if let Err(error) = print(&rt, &file[..length]) {
-        let _ = fail(&rt, "standard output", error);
-        return ExitCode::FAILURE;
-    }
-    ExitCode::SUCCESS
+    input::exit_code(&rt, run(&rt))
 }

@@ -61,13 +61,10 @@ fn put_positions(out: &mut [u8], at: usize, parents: &[usize]) -> usize
     ensures { Put out.old at (position_lines parents.now (length parents.now) 0) result out.new }
 {
     let mut to = at;
-    let mut i = 0;
-    while i < parents.len() {
-        let parent = parents[i];
+    for i in 0..parents.len() {
         let position = i + 1;
         let rank = ranks::rank(parents, position);
-        to = put_position(out, to, position, parent, rank);
-        i = position;
+        to = put_position(out, to, position, parents[i], rank);
     }
     to
 }
@@ -78,8 +75,8 @@ pub fn put_shapes(out: &mut [u8], at: usize, shapes: [PositionSyntax; 63], count
     requires shapes_in_bounds { at + length (all_positions (take count shapes)) ≤ length out.old }
     ensures { Put out.old at (all_positions (take count shapes)) result out.new }
 {
-    let all = validation::parents_of(shapes);
-    put_positions(out, at, &all[..count])
+    let parents = validation::parents_of(&shapes[..count]);
+    put_positions(out, at, &parents[..count])
 }
 
 // Puts the line of a refused file.

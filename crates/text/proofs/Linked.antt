@@ -1,7 +1,5 @@
 -- A program that has this crate's table, and the code of what the crate calls, has the code of these functions: for the crate `linked`.
-use mathlib.Core.Bool.{true}
-use prog.Linked.{World, Holds, in_world}
-use prog.LinkedThreads.{HasT}
+use Rattle.rules.proofs.Table.{HasAt}
 use Rattle.text.proofs.TheLink.{table, Below, linked-text::put, linked-text::put_decimal, linked-text::put_last, linked-text::put_number, linked-text::put_two, linked-text::table::row_or_first}
 use Rattle.text.proofs.put.Symbol.{code as put_code}
 use Rattle.text.proofs.put_decimal.Symbol.{code as put_decimal_code}
@@ -10,20 +8,20 @@ use Rattle.text.proofs.put_number.Symbol.{code as put_number_code}
 use Rattle.text.proofs.put_two.Symbol.{code as put_two_code}
 use Rattle.text.proofs.table.row_or_first.Symbol.{code as table_row_or_first_code}
 
-pub put : (W : World) → Holds W "text" table → Below W → HasT (in_world W) true put_code
+pub put : HasAt "text" table Below put_code
 put = linked-text::put
 
-pub put_decimal : (W : World) → Holds W "text" table → Below W → HasT (in_world W) true put_decimal_code
+pub put_decimal : HasAt "text" table Below put_decimal_code
 put_decimal = linked-text::put_decimal
 
-pub put_last : (W : World) → Holds W "text" table → Below W → HasT (in_world W) true put_last_code
+pub put_last : HasAt "text" table Below put_last_code
 put_last = linked-text::put_last
 
-pub put_number : (W : World) → Holds W "text" table → Below W → HasT (in_world W) true put_number_code
+pub put_number : HasAt "text" table Below put_number_code
 put_number = linked-text::put_number
 
-pub put_two : (W : World) → Holds W "text" table → Below W → HasT (in_world W) true put_two_code
+pub put_two : HasAt "text" table Below put_two_code
 put_two = linked-text::put_two
 
-pub table_row_or_first : (W : World) → Holds W "text" table → Below W → HasT (in_world W) true table_row_or_first_code
+pub table_row_or_first : HasAt "text" table Below table_row_or_first_code
 table_row_or_first = linked-text::table::row_or_first

@@ -6,8 +6,9 @@ use mathlib.Core.Bool.{Bool, true, false, ◌&&◌}
 use native.Mathlib.Omega.{arith}
 use borrow.Author.Tests.{leb-true, le-leb, lt-leb}
 use lib.Dec.{leb}
-use lib.ListN.{length, get_or, take, drop}
-use lib.Seq.{length-take-le, get_or-take}
+use native.Mathlib.Numerals.{add-one}
+use lib.ListN.{length, get_or, take, drop, drop_of_length-le}
+use lib.Seq.{drop-cons}
 use Rattle.rules.specs.Rule.{pick}
 use Rattle.rules.proofs.Laws.{both}
 use Rattle.position.specs.declared.PositionSyntax.{PositionSyntax}
@@ -15,25 +16,24 @@ use Rattle.position.specs.Shape.{default}
 use Rattle.position.specs.Formed.{is_shaped}
 use Rattle.position.specs.Formed.{Shaped}
 use Rattle.position.proofs.Formed.{shaped_when}
-use Rattle.positions.proofs.Loops.{one_left, none_left}
 use Rattle.update.specs.Update.{all_shaped, may_update, shapes_question}
 
-module _ (shapes : List PositionSyntax) (count i : ℕ) (few : count ≤ length shapes) where
+module _ (shapes : List PositionSyntax) (i : ℕ) where
   -- the shapes from `i` on
-  turn : i < count → all_shaped (drop i (take count shapes)) ≡ (is_shaped (get_or shapes i default) && all_shaped (drop (i + 1) (take count shapes)))
+  turn : i < length shapes → all_shaped (drop i shapes) ≡ (is_shaped (get_or shapes i default) && all_shaped (drop (i + 1) shapes))
   unfolding all_shaped
-  turn h = rw (one_left shapes count i few default h)
+  turn h = rw (add-one, drop-cons shapes i default h)
 
-  module _ {b : Bool} (e : b ≡ is_shaped (get_or shapes i default)) (h : i < count) (left : all_shaped (drop i (take count shapes)) ≡ all_shaped (take count shapes)) where
-    pub shape_kept : b ≡ true → all_shaped (drop (i + 1) (take count shapes)) ≡ all_shaped (take count shapes)
+  module _ {b : Bool} (e : b ≡ is_shaped (get_or shapes i default)) (h : i < length shapes) (left : all_shaped (drop i shapes) ≡ all_shaped shapes) where
+    pub shape_kept : b ≡ true → all_shaped (drop (i + 1) shapes) ≡ all_shaped shapes
     shape_kept q = rw (turn h, ← e, q) at left
 
-    pub shape_broken : b ≡ false → false ≡ all_shaped (take count shapes)
+    pub shape_broken : b ≡ false → false ≡ all_shaped shapes
     shape_broken q = rw (turn h, ← e, q) at left
 
-  pub shapes_kept : count ≤ i → all_shaped (drop i (take count shapes)) ≡ all_shaped (take count shapes) → true ≡ all_shaped (take count shapes)
+  pub shapes_kept : length shapes ≤ i → all_shaped (drop i shapes) ≡ all_shaped shapes → true ≡ all_shaped shapes
   unfolding all_shaped
-  shapes_kept h left = rw (none_left shapes count i few h) at left
+  shapes_kept h left = rw (drop_of_length-le shapes h) at left
 
 -- each shape of a list that has none above 24
 all_at : (shapes : List PositionSyntax) → all_shaped shapes ≡ true → (i : ℕ) → i < length shapes → Shaped (get_or shapes i default)
@@ -54,16 +54,17 @@ module _ (count : ℕ) (shapes : List PositionSyntax) where
   all_asked h q = sym (ap numbered (le-leb _ _ h) ∙ ap (λ (b : Bool). pick {A = ℕ} b 0 2) (sym q))
 
 -- question 2 is met where its number is 0
-pub question_met : (b : Bool) → ◌≡◌ {A = ℕ} (pick b 0 2) 0 → b ≡ true
+question_met : (b : Bool) → ◌≡◌ {A = ℕ} (pick b 0 2) 0 → b ≡ true
 question_met true h = refl
 question_met false h = absurd (omega arith)
 
 -- what it says where it is met
-module _ (shapes : List PositionSyntax) (count : ℕ) (met : may_update count (take count shapes) ≡ true) where
+module _ (shapes : List PositionSyntax) (count : ℕ) (long : length shapes ≡ 63) (q : ◌≡◌ {A = ℕ} (shapes_question count (take count shapes)) 0) where
+  met : may_update count (take count shapes) ≡ true
+  met = question_met _ q
+
   pub few_shapes : count ≤ 63
   few_shapes = leb-true count 63 (both (leb count 63) met).0
 
-  pub shapes_shaped : length shapes ≡ 63 → (i : ℕ) → i < count → Shaped (get_or shapes i default)
-  shapes_shaped long i l =
-      let few : length (take count shapes) ≡ count = length-take-le count shapes (omega (arith, few_shapes)) in
-      rw (get_or-take count shapes i default l) at (all_at (take count shapes) (both (leb count 63) met).1 i (omega arith))
+  pub shapes_shaped : (i : ℕ) → i < length (take count shapes) → Shaped (get_or (take count shapes) i default)
+  shapes_shaped i l = all_at (take count shapes) (both (leb count 63) met).1 i l

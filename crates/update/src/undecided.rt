@@ -1,76 +1,82 @@
-// The reading of an update before it is decided whether it counts, for `graph_update` here and for the crate `lent` alone.
-// `read_update` asks its caller for the number of question 2, and unless the update was read the first `count` shapes that it
-// hands back are free: nothing is promised of them. Whether they count is decided by its two callers.
+// The reading of an update before it is decided whether it counts, for `graph_update` here and for the crate `lent` alone. Unless
+// the update was read, the first `count` shapes that `read_update` leaves are free: nothing is promised of them. Whether they
+// count is decided by its two callers.
 ghost use Rattle.std.specs.Prelude.{◌≡◌, ℕ, ◌≤◌, ◌<◌, length, get_or, take};
-ghost use Rattle.rules.specs.Met.{Sound};
 ghost use Rattle.rules.specs.Answer.{input_of, entry_then};
+ghost use Rattle.parser.specs.Met.{Met, giving};
+ghost use Rattle.parser.specs.Begun.{IsRefusal, asked};
 ghost use Rattle.position.specs.Shape.{default};
 ghost use Rattle.position.specs.Formed.{Shaped};
-ghost use Rattle.positions.specs.Positions.{Positioned};
-ghost use Rattle.update.specs.Update.{graph_update, shapes_question, update_reading, UpdateGiven};
+ghost use Rattle.update.specs.Update.{all_shaped, graph_update, shapes_question, update_reading, Entered, UpdateGiven};
 
+use parser::{Parser, tri};
 use position::PositionSyntax;
-use positions::TakenShapes;
-use rules::State;
+use rules::{Answer, Outcome, Reason};
+
+// Whether no shape has a precision above 24.
+fn all_shaped(shapes: &[PositionSyntax]) -> bool
+    ensures { result ≡ all_shaped shapes.now }
+{
+    for shape in shapes {
+        if !shape.is_shaped() {
+            return false;
+        }
+    }
+    true
+}
+
+// Question 2, of the first `count` shapes.
+fn question(shapes: &[PositionSyntax; 63], count: usize) -> Result<(), Reason>
+    ensures number { asked result ≡ shapes_question count (take count shapes.now) }
+    ensures refuses { IsRefusal result }
+{
+    if count > Parser::POSITIONS {
+        return Err(Reason::BadShapes);
+    }
+    if all_shaped(&shapes[..count]) {
+        return Ok(());
+    }
+    Err(Reason::BadShapes)
+}
 
 // The positions of an update, whose parents are validated after the last of them.
-fn updated(
-    bytes: &[u8],
-    words: &mut [u64],
-    s: State,
-    shapes: [PositionSyntax; 63],
-    count: usize,
-) -> TakenShapes
-    requires sound { Sound s }
-    requires count_bound { count ≤ 63 }
-    requires by_index { (i : ℕ) → i < count → Shaped (get_or shapes i default) }
-    ensures { Positioned (graph_update (take count shapes)) count bytes.now words.old s shapes result.shapes result.state words.new }
+fn updated(parser: &mut Parser<'_>, shapes: &mut [PositionSyntax]) -> Result<(), Reason>
+    requires shapes_bound { length shapes.old ≤ 63 }
+    requires by_index { (i : ℕ) → i < length shapes.old → Shaped (get_or shapes.old i default) }
+    ensures { Met (graph_update shapes.old) parser.old (giving shapes.new result) parser.new }
 {
-    let a = positions::positions(bytes, words, s, shapes, count, false);
-    let s1 = a.state;
-    let next = a.shapes;
-    let s2 = validation::validated(s1, next, count);
-    TakenShapes {
-        state: s2,
-        shapes: next,
-    }
+    tri!(positions::positions(parser, shapes, false));
+    validation::validated(shapes)
 }
 
-// The questions of an entry, of which `own` is the number of its own if that is not met, and an update.
+// The questions of an entry, and an update.
 fn entered(
-    bytes: &[u8],
-    words: &mut [u64],
-    s: State,
+    parser: &mut Parser<'_>,
     offset: usize,
-    shapes: [PositionSyntax; 63],
+    shapes: &mut [PositionSyntax; 63],
     count: usize,
-    own: u16,
-) -> TakenShapes
-    requires sound { Sound s }
-    requires own_value { own ≡ shapes_question count (take count shapes) }
-    ensures { Positioned (entry_then (length bytes.now) (shapes_question count (take count shapes)) offset (graph_update (take count shapes))) count bytes.now words.old s shapes result.shapes result.state words.new }
+) -> Result<(), Reason>
+    ensures { Entered (entry_then (length parser.old.bytes.now) (shapes_question count (take count shapes.old)) offset (graph_update (take count shapes.old))) count shapes.old parser.old result shapes.new parser.new }
 {
-    let t = reader::entry(bytes, s, own, offset);
-    if own == 0 {
-        return updated(bytes, words, t, shapes, count);
-    }
-    TakenShapes { state: t, shapes }
+    let own = question(shapes, count);
+    tri!(parser.entry(own, offset));
+    updated(parser, &mut shapes[..count])
 }
 
-// The reading of an update of the first `count` shapes, from the bit `offset` on; `own` is the number of question 2, asked
-// already. The first `count` shapes that come back are those of the update if it was read, and free if not.
+// The reading of an update of the first `count` shapes, from the bit `offset` on. If it was read they are those of the update.
 pub fn read_update(
     bytes: &[u8],
     offset: usize,
     recording: bool,
     words: &mut [u64],
-    shapes: [PositionSyntax; 63],
+    shapes: &mut [PositionSyntax; 63],
     count: usize,
-    own: u16,
-) -> TakenShapes
-    requires { own ≡ shapes_question count (take count shapes) }
-    ensures { UpdateGiven (update_reading (input_of bytes.now recording words.old) offset count (take count shapes)) count shapes recording words.old result words.new }
+) -> Answer
+    ensures { UpdateGiven (update_reading (input_of bytes.now recording words.old) offset count (take count shapes.old)) count shapes.old recording words.old result shapes.new words.new }
 {
-    let s = State::fresh(recording, 0);
-    entered(bytes, words, s, offset, shapes, count, own)
+    let mut parser = Parser::new(bytes, words, recording, 0);
+    match entered(&mut parser, offset, shapes, count) {
+        Ok(()) => parser.answer(Outcome::Read),
+        Err(reason) => parser.answer(Outcome::from(reason)),
+    }
 }

@@ -1,78 +1,74 @@
 // Validation of a scene's parents: passive.rs, `validate_graph`.
 #![tactic(auto)]
 
-ghost use Rattle.std.specs.Prelude.{◌≡◌, take, eqb, ◌≤◌};
+ghost use Rattle.std.specs.Prelude.{◌≡◌, ◌≤◌, length, take, eqb};
 ghost use Rattle.rules.specs.Rule.{refused};
 ghost use Rattle.rules.specs.Reading.{reading};
 ghost use Rattle.rules.specs.Derived.{demand};
 ghost use Rattle.rules.specs.Answer.{answer_of};
-ghost use Rattle.rules.specs.Met.{MetAlone, Sound};
+ghost use Rattle.parser.specs.Begun.{IsRefusal, asked};
 ghost use Rattle.ranks.specs.Rank.{verdict};
-ghost use Rattle.validation.specs.Validation.{parents, validate_graph, validation_reading, no_input};
+ghost use Rattle.validation.specs.Validation.{parents, validation_reading, no_input};
 
+use parser::Parser;
 use position::PositionSyntax;
-use rules::{Answer, Outcome, State};
+use rules::{Answer, Outcome, Reason};
 
-// The parents alone.
-pub fn parents_of(shapes: [PositionSyntax; 63]) -> [usize; 63]
-    ensures { result ≡ parents shapes }
+// The parents alone, in the first places of an array.
+pub fn parents_of(shapes: &[PositionSyntax]) -> [usize; 63]
+    requires { length shapes.now ≤ 63 }
+    ensures { take (length shapes.now) result ≡ parents shapes.now }
 {
-    let mut out = [0usize; 63];
-    let mut i = 0;
-    while i < 63 {
+    let mut out = [0; 63];
+    for i in 0..shapes.len() {
         out[i] = shapes[i].parent;
-        i += 1;
     }
     out
 }
 
-// The number for the first `count` shapes.
-fn verdict(shapes: [PositionSyntax; 63], count: usize) -> u16
-    requires { count ≤ 63 }
-    ensures { result ≡ verdict (parents (take count shapes)) }
+// What validation says of shapes: it is asked after the last of them is read.
+pub fn validated(shapes: &[PositionSyntax]) -> Result<(), Reason>
+    requires { length shapes.now ≤ 63 }
+    ensures number { asked result ≡ verdict (parents shapes.now) }
+    ensures refuses { IsRefusal result }
 {
-    let all = parents_of(shapes);
-    ranks::judge(&all[..count])
+    let parents = parents_of(shapes);
+    ranks::judge(&parents[..shapes.len()])
 }
 
-// Validation within a reading, which is left alone if it has ended.
-pub fn validated(s: State, shapes: [PositionSyntax; 63], count: usize) -> State
-    requires sound { Sound s }
-    requires count_bound { count ≤ 63 }
-    ensures { MetAlone (validate_graph (take count shapes)) s tt result }
+// The answer at a position, with no fields.
+fn answer(ended: Result<(), Reason>, position: usize) -> Answer
+    requires { IsRefusal ended }
+    ensures { result ≡ answer_of (reading no_input (demand (eqb (asked ended) 0) (refused (asked ended))) position position 0) }
 {
-    if !s.is_read() {
-        return s;
-    }
-    let number = verdict(shapes, count);
-    reader::demand(s, number == 0, number)
-}
-
-// The answer at a position, with no fields: read if the number is 0, and refused by it otherwise.
-fn answer(number: u16, position: usize) -> Answer
-    ensures { result ≡ answer_of (reading no_input (demand (eqb number 0) (refused number)) position position 0) }
-{
-    if number == 0 {
-        return Answer {
-            outcome: Outcome::Read,
-            position,
-            fields: 0,
-        };
-    }
+    let outcome = match ended {
+        Ok(()) => Outcome::Read,
+        Err(reason) => Outcome::from(reason),
+    };
     Answer {
-        outcome: Outcome::Refused(number),
+        outcome,
         position,
         fields: 0,
     }
 }
 
-// Validation alone, of the first `count` shapes: refused by 2 if more than 63 are asked for.
+// Validation alone, of shapes of any number: refused by 2 if there are more than 63.
+pub fn validate(shapes: &[PositionSyntax], at: usize) -> Answer
+    ensures { result ≡ answer_of (validation_reading (length shapes.now) shapes.now at) }
+{
+    if shapes.len() > Parser::POSITIONS {
+        return answer(Err(Reason::BadShapes), 0);
+    }
+    let ended = validated(shapes);
+    answer(ended, at)
+}
+
+// The same of the first `count` of 63 shapes.
 pub fn validate_graph(shapes: [PositionSyntax; 63], count: usize, at: usize) -> Answer
     ensures { result ≡ answer_of (validation_reading count (take count shapes) at) }
 {
-    if State::POSITIONS < count {
-        return answer(2, 0);
+    if count > Parser::POSITIONS {
+        return answer(Err(Reason::BadShapes), 0);
     }
-    let number = verdict(shapes, count);
-    answer(number, at)
+    validate(&shapes[..count], at)
 }

@@ -1,4 +1,4 @@
-use Rattle.rules.proofs.Laws.{readings}
+use Rattle.parser.proofs.Laws.{readings}
 use Rattle.bands.specs.Bands.{band_values}
 use Rattle.bands.proofs.band_values.Goals as goal
 

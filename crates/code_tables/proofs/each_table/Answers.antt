@@ -1,20 +1,17 @@
-use mathlib.Core.Path.{refl}
-use native.Mathlib.Omega.{arith}
 use native.Mathlib.Nat.{sub-zero}
 use borrow.Author.Rules.{rules}
-use Rattle.rules.proofs.Left.{left_all, left_over}
-use Rattle.rules.proofs.Fold.{fold_more, fold_none}
+use Rattle.parser.proofs.Left.{left_all}
+use Rattle.parser.proofs.Fold.{fold_more, fold_ended, fold_none}
 use Rattle.code_tables.proofs.each_table.Goals as goal
 
 pub loop-i-init : goal.loop-i-init
-loop-i-init c = (omega arith, refl, rw sub-zero (left_all (search rules)))
+loop-i-init c = rw sub-zero left_all
+
+pub returns-in-loop-i : goal.returns-in-loop-i
+returns-in-loop-i c = fold_ended _ _ _ _ c.loop-i.invariant c.loop-i-test.true c.table.ensures (search rules)
 
 pub loop-i-preserved : goal.loop-i-preserved
-loop-i-preserved c =
-    (omega arith, search rules, fold_more _ _ _ _ c.loop-i.invariant.2 c.loop-i-test.true c.table-t.ensures)
+loop-i-preserved c = fold_more _ _ _ _ c.loop-i.invariant c.loop-i-test.true c.table.ensures (search rules)
 
-pub returns-else-is_read : goal.returns-else-is_read
-returns-else-is_read c = left_over c.loop-i.invariant.2 c.is_read.ensures c.if-is_read.false
-
-pub returns-after-loop-i : goal.returns-after-loop-i
-returns-after-loop-i c = fold_none _ _ _ _ c.loop-i.invariant.2 c.loop-i-test.false
+pub returns : goal.returns
+returns c = fold_none _ _ _ _ c.loop-i.invariant c.loop-i-test.false

@@ -1,4 +1,4 @@
-use Rattle.rules.proofs.Laws.{readings}
+use Rattle.parser.proofs.Laws.{readings}
 use Rattle.code_tables.specs.Tables.{entries}
 use Rattle.code_tables.proofs.entries.Goals as goal
 

@@ -1,7 +1,11 @@
-use Rattle.rules.proofs.Laws.{readings}
+use Rattle.parser.proofs.Laws.{readings}
 use Rattle.common.specs.Common.{number}
 use Rattle.common.proofs.number.Goals as goal
 
 pub returns : goal.returns
 unfolding number
 returns c = search readings depth 14
+
+pub returns-2 : goal.returns-2
+unfolding number
+returns-2 c = search readings depth 14

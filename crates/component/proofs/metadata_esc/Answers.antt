@@ -1,8 +1,7 @@
-use borrow.Author.Rules.{rules}
-use Rattle.rules.proofs.Laws.{readings}
+use Rattle.parser.proofs.Laws.{readings}
 use Rattle.component.specs.Component.{metadata_esc}
 use Rattle.component.proofs.metadata_esc.Goals as goal
 
-pub returns : goal.returns
+pub returns-clause-met : goal.returns-clause-met
 unfolding metadata_esc
-returns c = record { met = search readings depth 14; small = search rules }
+returns-clause-met c = search readings depth 14

@@ -3,8 +3,8 @@ use mathlib.Core.List.{[], ◌∷◌}
 use mathlib.Core.Path.{refl}
 use native.Mathlib.Omega.{arith}
 use types.Run.{OneOf}
-use Rattle.rules.proofs.Laws.{readings, by_words}
-use Rattle.rules.proofs.Choice.{chosen_three, chosen_last, below, past, but_first, choices}
+use Rattle.parser.proofs.Laws.{readings}
+use Rattle.parser.proofs.Choice.{chosen_three, chosen_last, below, past, but_first, choices}
 use Rattle.compression.specs.Compression.{contents}
 use Rattle.compression.proofs.contents.Goals as goal
 
@@ -26,4 +26,4 @@ unfolding contents
 returns-in_default c =
     let other : OneOf (0 ∷ []) c.args.kind → ⊥ = assumption in
     let more : 4 ≤ c.args.kind = omega arith in
-    chosen_last _ _ _ ((tt, other), past (1 ∷ 2 ∷ 3 ∷ []) 4 _ (refl, (refl, (refl, tt))) more) (by_words c.passive_bits.ensures)
+    chosen_last _ _ _ ((tt, other), past (1 ∷ 2 ∷ 3 ∷ []) 4 _ (refl, (refl, (refl, tt))) more) c.passive_bits.ensures

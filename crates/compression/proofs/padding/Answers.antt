@@ -1,9 +1,7 @@
-use Rattle.rules.proofs.Laws.{first_position}
+use Rattle.parser.proofs.Laws.{position_is}
 use Rattle.compression.specs.Compression.{padding}
 use Rattle.compression.proofs.padding.Goals as goal
 
 pub returns : goal.returns
 unfolding padding
-returns c =
-    let passed = c.passive_bits.ensures in
-    record { sound = passed.sound; met = λ bs. first_position _ c.requires.sound (passed.met bs) }
+returns c = position_is _ c.position.ensures c.passive_bits.ensures

@@ -1,11 +1,15 @@
-use Rattle.rules.proofs.Laws.{readings}
+use Rattle.parser.proofs.Laws.{readings}
 use Rattle.configuration.specs.Configuration.{data_if_present}
 use Rattle.configuration.proofs.data_if_present.Goals as goal
-
-pub returns-then-a : goal.returns-then-a
-unfolding data_if_present
-returns-then-a c = search readings depth 14
 
 pub returns : goal.returns
 unfolding data_if_present
 returns c = search readings depth 14
+
+pub returns-then-present : goal.returns-then-present
+unfolding data_if_present
+returns-then-present c = search readings depth 14
+
+pub returns-2 : goal.returns-2
+unfolding data_if_present
+returns-2 c = search readings depth 14

@@ -2,8 +2,8 @@ use Prim.Native.Nat.{◌<◌, ◌≤◌}
 use native.Mathlib.Omega.{arith}
 use mathlib.Core.Path.{refl}
 use mathlib.Core.List.{[], ◌∷◌}
-use Rattle.rules.proofs.Laws.{readings}
-use Rattle.rules.proofs.Choice.{chosen_three, chosen_last, passed, below, past, choices}
+use Rattle.parser.proofs.Laws.{readings}
+use Rattle.parser.proofs.Choice.{chosen_three, chosen_last, passed, below, past, choices}
 use Rattle.global.specs.Global.{metadata_global_parameter}
 use Rattle.global.proofs.metadata_global_parameter.Goals as goal
 

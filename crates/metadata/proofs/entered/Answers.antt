@@ -1,7 +1,9 @@
-use mathlib.Core.Path.{refl}
-use Rattle.rules.proofs.Answers.{entry_kept}
+use borrow.Author.Rules.{rules}
+use Rattle.parser.proofs.Laws.{first, ended_first}
 use Rattle.metadata.proofs.entered.Goals as goal
 
 pub returns : goal.returns
-returns c =
-    entry_kept _ _ _ _ 0 refl c.entry-t.ensures c.metadata_configuration.ensures
+returns c = ended_first _ c.entry.ensures (search rules)
+
+pub returns-2 : goal.returns-2
+returns-2 c = first _ c.entry.ensures (search rules) c.metadata_configuration.ensures

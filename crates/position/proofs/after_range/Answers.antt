@@ -1,8 +1,19 @@
-use borrow.Author.Rules.{rules}
-use Rattle.rules.proofs.Laws.{readings}
+use Rattle.parser.proofs.Laws.{readings}
 use Rattle.position.specs.Position.{after_range}
 use Rattle.position.proofs.after_range.Goals as goal
 
-pub returns : goal.returns
+pub returns-clause-met : goal.returns-clause-met
 unfolding after_range
-returns c = record { met = search readings depth 14; shaped = search rules }
+returns-clause-met c = search readings depth 14
+
+pub returns-2-clause-met : goal.returns-2-clause-met
+unfolding after_range
+returns-2-clause-met c = search readings depth 14
+
+pub returns-3-clause-met : goal.returns-3-clause-met
+unfolding after_range
+returns-3-clause-met c = search readings depth 14
+
+pub returns-4-clause-met : goal.returns-4-clause-met
+unfolding after_range
+returns-4-clause-met c = search readings depth 14

@@ -1,4 +1,4 @@
-use Rattle.rules.proofs.Laws.{readings}
+use Rattle.parser.proofs.Laws.{readings}
 use Rattle.position.specs.Position.{changed}
 use Rattle.position.proofs.changed.Goals as goal
 

@@ -1,12 +1,19 @@
-use borrow.Author.Rules.{rules}
-use Rattle.rules.proofs.Laws.{readings}
+use Rattle.parser.proofs.Laws.{readings}
 use Rattle.position.specs.Position.{coordinates}
 use Rattle.position.proofs.coordinates.Goals as goal
 
-pub coordinate_values-s3-requires : goal.coordinate_values-s3-requires
-coordinate_values-s3-requires c =
-    record { sound = search rules; precision_bound = c.requires.shaped.position; p_bound = c.requires.p_bound }
-
-pub returns : goal.returns
+pub returns-clause-met : goal.returns-clause-met
 unfolding coordinates
-returns c = record { met = search readings depth 14; shaped = search rules }
+returns-clause-met c = search readings depth 14
+
+pub returns-2-clause-met : goal.returns-2-clause-met
+unfolding coordinates
+returns-2-clause-met c = search readings depth 14
+
+pub returns-3-clause-met : goal.returns-3-clause-met
+unfolding coordinates
+returns-3-clause-met c = search readings depth 14
+
+pub returns-4-clause-met : goal.returns-4-clause-met
+unfolding coordinates
+returns-4-clause-met c = search readings depth 14

@@ -1,4 +1,4 @@
-use Rattle.rules.proofs.Laws.{readings}
+use Rattle.parser.proofs.Laws.{readings}
 use Rattle.position.specs.Position.{flag_unless}
 use Rattle.position.proofs.flag_unless.Goals as goal
 

@@ -3,4 +3,4 @@ use Rattle.position.proofs.rotation_values.Goals as goal
 
 pub returns : goal.returns
 unfolding rotation_values
-returns c = rw c.width-a.ensures at c.passive_values.ensures
+returns c = rw c.width-widths.ensures at c.passive_values.ensures

@@ -1,21 +1,26 @@
-use mathlib.Core.Path.{sym, ◌∙◌}
+use Prim.Native.Nat.{ℕ}
+use mathlib.Core.Path.{◌≡◌, refl, sym, ◌∙◌}
+use mathlib.Core.Bool.{Bool, true, false}
 use native.Mathlib.Omega.{arith}
 use borrow.Author.Rules.{rules}
-use Rattle.rules.proofs.Answers.{question_kept, question_broken, entry_kept, entry_broken}
-use Rattle.position.specs.Formed.{is_shaped}
+use Rattle.rules.specs.Rule.{pick}
+use Rattle.parser.proofs.Laws.{first_unit, ended_first}
+use Rattle.parser.proofs.Entered.{own_met}
 use Rattle.position.proofs.Formed.{shaped_when}
 use Rattle.position_alone.proofs.entered.Goals as goal
 
-pub position-requires : goal.position-requires
-position-requires c =
-    record { sound = search rules; shaped = shaped_when _ (sym c.is_shaped.ensures ∙ c.if-is_shaped.true); p_bound = omega arith }
-
-pub returns-then-is_shaped : goal.returns-then-is_shaped
-returns-then-is_shaped c =
-    let own = question_kept (is_shaped c.args.shape) 2 c.is_shaped.ensures c.if-is_shaped.true in
-    entry_kept _ _ _ _ 0 own c.entry-t.ensures c.position.ensures.met
+is_met : (b : Bool) → ◌≡◌ {A = ℕ} (pick b 0 2) 0 → b ≡ true
+is_met true e = refl
+is_met false e = absurd (omega (arith, e))
 
 pub returns : goal.returns
-returns c =
-    let own = question_broken (is_shaped c.args.shape) 2 c.is_shaped.ensures c.if-is_shaped.false in
-    entry_broken _ _ _ _ 2 own c.entry-t-2.ensures (λ z. omega arith)
+returns c = let read = rw c.shape_question.ensures.number at c.entry.ensures in ended_first _ read (search rules)
+
+pub position-requires-clause-shaped : goal.position-requires-clause-shaped
+position-requires-clause-shaped c =
+    shaped_when _ (is_met _ (sym c.shape_question.ensures.number ∙ own_met _ _ _ c.entry.ensures (search rules)))
+
+pub returns-2 : goal.returns-2
+returns-2 c =
+    let read = rw c.shape_question.ensures.number at c.entry.ensures in
+    first_unit _ read (search rules) c.position.ensures.met

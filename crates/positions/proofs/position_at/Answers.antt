@@ -1,4 +1,4 @@
-use Rattle.rules.proofs.Laws.{readings}
+use Rattle.parser.proofs.Laws.{readings}
 use Rattle.positions.specs.Positions.{position_at}
 use Rattle.positions.proofs.position_at.Goals as goal
 

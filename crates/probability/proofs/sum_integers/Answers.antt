@@ -1,20 +1,25 @@
-use mathlib.Core.Path.{refl}
+use Rattle.std.proofs.lemmas.Grind.{common_steps}
 use native.Mathlib.Omega.{arith}
 use native.Mathlib.Nat.{sub-zero}
 use borrow.Author.Rules.{rules}
-use Rattle.rules.proofs.Left.{left_all, left_over}
-use Rattle.rules.proofs.Fold.{fold_more, fold_none}
+use Rattle.parser.proofs.Left.{left_all}
+use Rattle.parser.proofs.Fold.{fold_more, fold_ended, fold_none}
 use Rattle.probability.proofs.sum_integers.Goals as goal
 
 pub loop-j-init : goal.loop-j-init
-loop-j-init c = (omega arith, refl, omega arith, rw sub-zero (left_all (search rules)))
+loop-j-init c = record { small = omega arith; left = rw sub-zero left_all }
+
+pub add_integer-requires-clause-sum_bound : goal.add_integer-requires-clause-sum_bound
+add_integer-requires-clause-sum_bound c = c.loop-j.invariant.small
+
+pub returns-in-loop-j : goal.returns-in-loop-j
+returns-in-loop-j c = fold_ended _ _ _ _ c.loop-j.invariant.left c.loop-j-test.true c.add_integer.ensures.met (search rules)
 
 pub loop-j-preserved : goal.loop-j-preserved
-loop-j-preserved c =
-    (omega arith, search rules, omega (arith, c.add_integer-v.ensures.small), fold_more _ _ _ _ c.loop-j.invariant.3 c.loop-j-test.true c.add_integer-v.ensures.met)
+loop-j-preserved c = record {
+  small = grind (arith, common_steps);
+  left = fold_more _ _ _ _ c.loop-j.invariant.left c.loop-j-test.true c.add_integer.ensures.met (search rules);
+}
 
-pub returns-else-is_read : goal.returns-else-is_read
-returns-else-is_read c = left_over c.loop-j.invariant.3 c.is_read.ensures c.if-is_read.false
-
-pub returns-after-loop-j : goal.returns-after-loop-j
-returns-after-loop-j c = fold_none _ _ _ _ c.loop-j.invariant.3 c.loop-j-test.false
+pub returns : goal.returns
+returns c = fold_none _ _ _ _ c.loop-j.invariant.left c.loop-j-test.false

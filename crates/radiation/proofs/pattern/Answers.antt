@@ -3,8 +3,8 @@ use native.Mathlib.Omega.{arith}
 use types.Run.{OneOf}
 use mathlib.Core.Path.{refl}
 use mathlib.Core.List.{[], ◌∷◌}
-use Rattle.rules.proofs.Laws.{readings}
-use Rattle.rules.proofs.Choice.{chosen_two, chosen_last, below, past, but_first, choices}
+use Rattle.parser.proofs.Laws.{readings}
+use Rattle.parser.proofs.Choice.{chosen_two, chosen_last, below, past, but_first, choices}
 use Rattle.radiation.specs.Radiation.{pattern}
 use Rattle.radiation.proofs.pattern.Goals as goal
 

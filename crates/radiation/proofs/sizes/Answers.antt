@@ -1,28 +1,33 @@
-use mathlib.Core.Path.{refl}
+use Prim.Native.Nat.{ℕ, ◌+◌, ◌*◌, ◌<◌, ◌≤◌, ◌^◌}
+use mathlib.Core.Path.{◌≡◌}
 use native.Mathlib.Omega.{arith}
 use native.Mathlib.Nat.{sub-zero}
 use borrow.Author.Rules.{rules}
-use Rattle.rules.proofs.Left.{left_all, left_over}
-use Rattle.rules.proofs.Fold.{fold_more, fold_none}
+use Rattle.std.specs.Prelude as std
+use Rattle.std.specs.Prelude.{Ok, IfOk}
+use Rattle.rules.specs.declared.reason.Reason.{Reason}
+use Rattle.parser.proofs.Left.{left_all}
+use Rattle.parser.proofs.Fold.{fold_more, fold_ended, fold_none}
 use Rattle.radiation.specs.Radiation.{sizes}
 use Rattle.radiation.proofs.sizes.Goals as goal
 
+-- the entries of one size more are few too
+few : (i : ℕ) {v entries : ℕ} {x : std.Result ℕ Reason} → x ≡ Ok v → IfOk x (λ a. a < entries + 2 ^ 22 + 1) → entries ≤ 2 ^ 22 * i → v ≤ 2 ^ 22 * (i + 1)
+few i e h l = let less = rw e at h in omega (arith, less, l)
+
 pub loop-i-init : goal.loop-i-init
 unfolding sizes
-loop-i-init c = (omega arith, omega arith, refl, rw sub-zero (left_all (search rules)))
+loop-i-init c = record { small = omega arith; left = rw sub-zero left_all }
+
+pub returns-in-loop-i-clause-met : goal.returns-in-loop-i-clause-met
+returns-in-loop-i-clause-met c =
+    fold_ended _ _ _ _ c.loop-i.invariant.left c.loop-i-test.true c.size.ensures.met (search rules)
 
 pub loop-i-preserved : goal.loop-i-preserved
-loop-i-preserved c =
-    let inv = c.loop-i.invariant in
-    let read = c.size-a.ensures in
-    (omega arith, omega (arith, inv.1, read.small), search rules, fold_more _ _ _ _ inv.3 c.loop-i-test.true read.met)
+loop-i-preserved c = record {
+  small = few _ (search rules) c.size.ensures.small c.loop-i.invariant.small;
+  left = fold_more _ _ _ _ c.loop-i.invariant.left c.loop-i-test.true c.size.ensures.met (search rules);
+}
 
-pub returns-else-is_read : goal.returns-else-is_read
-returns-else-is_read c =
-    let inv = c.loop-i.invariant in
-    record { met = left_over inv.3 c.is_read.ensures c.if-is_read.false; small = omega arith }
-
-pub returns-after-loop-i : goal.returns-after-loop-i
-returns-after-loop-i c =
-    let inv = c.loop-i.invariant in
-    record { met = fold_none _ _ _ _ inv.3 c.loop-i-test.false; small = omega arith }
+pub returns-clause-met : goal.returns-clause-met
+returns-clause-met c = fold_none _ _ _ _ c.loop-i.invariant.left c.loop-i-test.false

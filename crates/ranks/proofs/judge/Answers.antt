@@ -1,31 +1,22 @@
 use mathlib.Core.Path.{◌∙◌}
 use native.Mathlib.Nat.{sub-zero}
 use borrow.Author.Rules.{rules}
-use Rattle.ranks.specs.declared.Chain.TheVariants.{Ends, Leaves, Returns}
 use Rattle.ranks.specs.Rank.{verdict}
-use Rattle.ranks.proofs.Chains.{judge_turn, judge_end}
+use Rattle.ranks.proofs.Chains.{judge_on, judge_out, judge_end, chain_refuses}
 use Rattle.ranks.proofs.judge.Goals as goal
 
 pub loop-i-init : goal.loop-i-init
 unfolding verdict
-loop-i-init c = (search rules, rw sub-zero)
+loop-i-init c = rw sub-zero
+
+pub returns-in-loop-i-clause-number : goal.returns-in-loop-i-clause-number
+returns-in-loop-i-clause-number c = judge_out _ _ c.climb.ensures (search rules) c.loop-i-test.true ∙ c.loop-i.invariant
+
+pub returns-in-loop-i-clause-refuses : goal.returns-in-loop-i-clause-refuses
+returns-in-loop-i-clause-refuses c = chain_refuses _ _ c.climb.ensures (search rules)
 
 pub loop-i-preserved : goal.loop-i-preserved
-loop-i-preserved c = (
-  search rules,
-  judge_turn _ _ (Ends _) (c.in-Ends.ensures) c.loop-i-test.true
-      ∙ c.loop-i.invariant.1,
-)
+loop-i-preserved c = search judge_on
 
-pub returns-in-Leaves : goal.returns-in-Leaves
-returns-in-Leaves c =
-    judge_turn _ _ Leaves (c.in-Leaves.ensures) c.loop-i-test.true
-    ∙ c.loop-i.invariant.1
-
-pub returns-in-Returns : goal.returns-in-Returns
-returns-in-Returns c =
-    judge_turn _ _ Returns (c.in-Returns.ensures) c.loop-i-test.true
-    ∙ c.loop-i.invariant.1
-
-pub returns : goal.returns
-returns c = judge_end _ _ c.loop-i-test.false ∙ c.loop-i.invariant.1
+pub returns-clause-number : goal.returns-clause-number
+returns-clause-number c = judge_end _ _ c.loop-i-test.false ∙ c.loop-i.invariant

@@ -1,4 +1,4 @@
-use Prim.Native.Nat.{◌≤◌, ◌-◌}
+use Prim.Native.Nat.{◌-◌}
 use mathlib.Core.Path.{◌≡◌}
 use lib.ListN.{length}
 use Rattle.ranks.specs.Rank.{judge, verdict}
@@ -6,7 +6,4 @@ use Rattle.ranks.proofs.judge.Given as goal
 
 -- the number is that by the positions after `i`
 abbrev pub invariant-loop-i : goal.invariant-loop-i
-invariant-loop-i l = (l.i ≤ length l.parents) × (judge l.parents (length l.parents - l.i) l.i ≡ verdict l.parents)
-
-abbrev pub decreases-loop-i : goal.decreases-loop-i
-decreases-loop-i l = length l.parents - l.i
+invariant-loop-i l = judge l.parents (length l.parents - l.i) l.i ≡ verdict l.parents

@@ -1,16 +1,10 @@
-use Prim.Native.Nat.{◌-◌, ◌≤◌}
-use mathlib.Core.Path.{◌≡◌}
-use lib.ListN.{length}
+use Prim.Native.Nat.{◌-◌}
 use Rattle.rules.specs.Block.{data_parameters}
 use Rattle.rules.specs.Derived.{fold}
-use Rattle.rules.proofs.Left.{Left}
+use Rattle.parser.proofs.Left.{Left}
 use Rattle.renderer.specs.Renderer.{parameter, each_parameter}
 use Rattle.renderer.proofs.each_parameter.Given as goal
 
 -- the parameters from `i` on are left to be read
 abbrev pub invariant-loop-i : goal.invariant-loop-i
-invariant-loop-i l =
-    (l.i ≤ l.n) × (length l.words ≡ length l.initial.words) × Left (each_parameter l.g l.n) l.bytes l.initial.words l.initial.t (fold (λ i' _. parameter (data_parameters l.g i')) l.i (l.n - l.i) tt) l.t l.words
-
-abbrev pub decreases-loop-i : goal.decreases-loop-i
-decreases-loop-i l = l.n - l.i
+invariant-loop-i l = Left (each_parameter l.g l.count) l.initial.parser (fold (λ i' _. parameter (data_parameters l.g i')) l.i (l.count - l.i) tt) l.parser

@@ -1,7 +1,11 @@
-use Rattle.rules.proofs.Laws.{readings}
+use Rattle.parser.proofs.Laws.{readings}
 use Rattle.renderer.specs.Renderer.{parameter}
 use Rattle.renderer.proofs.parameter.Goals as goal
 
 pub returns : goal.returns
 unfolding parameter
 returns c = search readings depth 14
+
+pub returns-2 : goal.returns-2
+unfolding parameter
+returns-2 c = search readings depth 14

@@ -1,16 +1,23 @@
+use mathlib.Core.Path.{refl}
 use native.Mathlib.Omega.{arith}
 use native.Mathlib.Nat.{lt_of_le_of_lt}
+use borrow.Author.Rules.{rules}
 use borrow.Author.Tests.{lt-leb}
-use Rattle.rules.proofs.Laws.{readings, questions, first, alone, demand_broken}
+use Rattle.parser.proofs.Laws.{readings, questions, first, demand_broken}
+use Rattle.parser.proofs.Steps.{ends_now}
 use Rattle.renderer.specs.Renderer.{renderer_data}
 use Rattle.renderer.proofs.renderer_data.Goals as goal
 
-pub returns-then-n-gt-PARAMETERS : goal.returns-then-n-gt-PARAMETERS
-unfolding renderer_data
-returns-then-n-gt-PARAMETERS c =
-    let too_many = lt-leb _ 128 (lt_of_le_of_lt (omega arith) c.if-n-gt-PARAMETERS.true) in
-    first _ c.escaped-n.ensures.met (demand_broken _ _ too_many (alone c.invalid.ensures))
-
 pub returns : goal.returns
 unfolding renderer_data
-returns c = search (readings, questions) depth 14
+returns c = search readings depth 14
+
+pub returns-then-count-gt-PARAMETERS : goal.returns-then-count-gt-PARAMETERS
+unfolding renderer_data
+returns-then-count-gt-PARAMETERS c =
+    let too_many = lt-leb _ 128 (lt_of_le_of_lt (omega arith) c.if-count-gt-PARAMETERS.true) in
+    first _ c.escaped.ensures.met (search rules) (demand_broken _ _ too_many (ends_now refl))
+
+pub returns-2 : goal.returns-2
+unfolding renderer_data
+returns-2 c = search (readings, questions) depth 14

@@ -1,5 +1,5 @@
-use Rattle.rules.proofs.Laws.{readings}
-use Rattle.rules.proofs.Choice.{choices}
+use Rattle.parser.proofs.Laws.{readings}
+use Rattle.parser.proofs.Choice.{choices}
 use Rattle.renderer.specs.Renderer.{renderer_parameter}
 use Rattle.renderer.proofs.renderer_parameter.Goals as goal
 

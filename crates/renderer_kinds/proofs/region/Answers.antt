@@ -1,15 +1,19 @@
-use Rattle.rules.proofs.Laws.{readings}
+use Rattle.parser.proofs.Laws.{readings}
 use Rattle.renderer_kinds.specs.Kinds.{region}
 use Rattle.renderer_kinds.proofs.region.Goals as goal
 
-pub returns-then-a : goal.returns-then-a
+pub returns : goal.returns
 unfolding region
-returns-then-a c = search readings depth 14
+returns c = search readings depth 14
+
+pub returns-then-predefined : goal.returns-then-predefined
+unfolding region
+returns-then-predefined c = search readings depth 14
 
 pub returns-then-cartesian : goal.returns-then-cartesian
 unfolding region
 returns-then-cartesian c = search readings depth 14
 
-pub returns : goal.returns
+pub returns-2 : goal.returns-2
 unfolding region
-returns c = search readings depth 14
+returns-2 c = search readings depth 14

@@ -1,15 +1,23 @@
-use Rattle.rules.proofs.Laws.{readings}
+use Rattle.parser.proofs.Laws.{readings}
 use Rattle.renderer_kinds.specs.Kinds.{single_region}
 use Rattle.renderer_kinds.proofs.single_region.Goals as goal
-
-pub returns-then-a : goal.returns-then-a
-unfolding single_region
-returns-then-a c = search readings depth 14
-
-pub returns-then-b : goal.returns-then-b
-unfolding single_region
-returns-then-b c = search readings depth 14
 
 pub returns : goal.returns
 unfolding single_region
 returns c = search readings depth 14
+
+pub returns-then-predefined : goal.returns-then-predefined
+unfolding single_region
+returns-then-predefined c = search readings depth 14
+
+pub returns-2 : goal.returns-2
+unfolding single_region
+returns-2 c = search readings depth 14
+
+pub returns-then-cartesian : goal.returns-then-cartesian
+unfolding single_region
+returns-then-cartesian c = search readings depth 14
+
+pub returns-3 : goal.returns-3
+unfolding single_region
+returns-3 c = search readings depth 14

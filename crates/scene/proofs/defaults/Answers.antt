@@ -3,4 +3,4 @@ use Rattle.scene.proofs.defaults.Goals as goal
 
 pub returns : goal.returns
 unfolding defaults
-returns c = rw c.default-first.ensures
+returns c = rw c.default.ensures

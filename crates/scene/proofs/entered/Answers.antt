@@ -1,8 +1,10 @@
-use mathlib.Core.Path.{refl}
-use Rattle.positions.proofs.Then.{behind_entry}
+use borrow.Author.Rules.{rules}
+use Rattle.parser.proofs.Laws.{first_unit, ended_first}
 use Rattle.scene.proofs.entered.Goals as goal
 
 pub returns : goal.returns
-returns c =
-    let read = c.scene_graph.ensures in
-    record { taken = behind_entry _ _ _ 0 refl c.entry-t.ensures read.taken; most = read.most }
+returns c = record { met = ended_first _ c.entry.ensures (search rules); most = tt; others = tt }
+
+pub returns-2 : goal.returns-2
+returns-2 c =
+    record { met = first_unit _ c.entry.ensures (search rules) c.scene_graph.ensures.met; most = c.scene_graph.ensures.most; others = c.scene_graph.ensures.others }

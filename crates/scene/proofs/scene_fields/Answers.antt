@@ -1,32 +1,28 @@
-use Prim.Native.Nat.{◌≤◌}
 use native.Mathlib.Omega.{arith}
+use Rattle.std.proofs.lemmas.Grind.{common_steps}
 use borrow.Author.Rules.{rules}
-use Rattle.rules.proofs.Laws as Laws
+use Rattle.parser.proofs.Laws.{ended_first}
 use Rattle.scene.specs.Scene.{scene_fields}
-use Rattle.scene.proofs.Scenes.{defaults_shaped, defaults_first}
+use Rattle.scene.proofs.Scenes.{few, first_shaped, fields_met, others_default, left_read, left_ended}
 use Rattle.scene.proofs.scene_fields.Goals as goal
 
-pub positions-a-requires : goal.positions-a-requires
-positions-a-requires c =
-    let first = c.defaults-first.ensures in
-    let small = c.drc_count-n.ensures.small in
-    record {
-      sound = search rules;
-      count_bound = omega (arith, small);
-      by_index = λ i l. rw first (defaults_shaped i (omega (arith, small)));
-    }
+pub positions-requires-clause-by_index : goal.positions-requires-clause-by_index
+positions-requires-clause-by_index c = first_shaped (search rules) c.drc_count.ensures.small c.requires
 
 pub returns : goal.returns
 unfolding scene_fields
-returns c =
-    let first = c.defaults-first.ensures in
-    let most : c.drc_count-n.result.value ≤ 63 = omega (arith, c.drc_count-n.ensures.small) in
-    let read = c.positions-a.ensures in
-    record {
-      taken = record {
-        met = Laws.first _ c.drc_count-n.ensures.met (rw (first, defaults_first _ most) at read.met);
-        others = rw first at read.others;
-        long = rw first at read.long;
-      };
-      most = most;
-    }
+returns c = record { met = ended_first _ c.drc_count.ensures.met (search rules); most = tt; others = tt }
+
+pub returns-2 : goal.returns-2
+returns-2 c = record {
+  met = left_ended c.positions.new.shapes c.positions.result (fields_met (search rules) c.drc_count.ensures.small c.requires c.drc_count.ensures.met c.positions.ensures) (search rules);
+  most = tt;
+  others = tt;
+}
+
+pub returns-3 : goal.returns-3
+returns-3 c = record {
+  met = left_read c.positions.new.shapes c.positions.result (fields_met (search rules) c.drc_count.ensures.small c.requires c.drc_count.ensures.met c.positions.ensures) (search rules) (grind (arith, common_steps));
+  most = few (search rules) c.drc_count.ensures.small;
+  others = others_default (search rules) c.drc_count.ensures.small c.requires _ (grind (arith, common_steps));
+}

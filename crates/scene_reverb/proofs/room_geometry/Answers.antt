@@ -2,8 +2,9 @@ use Prim.Native.Nat.{ℕ, zero, suc, ◌≤◌}
 use native.Mathlib.Omega.{arith}
 use borrow.Author.Rules.{rules}
 use lib.ListN.{replicate}
-use Rattle.fields.specs.Taken.{Narrow}
-use Rattle.rules.proofs.Laws.{readings}
+use Rattle.parser.specs.Widths.{Narrow}
+use Rattle.parser.proofs.Laws.{readings}
+use Rattle.parser.proofs.Steps.{ends_now}
 use Rattle.scene_reverb.specs.SceneReverb.{room_geometry}
 use Rattle.scene_reverb.proofs.room_geometry.Goals as goal
 
@@ -13,12 +14,20 @@ narrow-same zero h = tt
 narrow-same (suc n) h = (h, narrow-same n h)
 
 pub values-requires : goal.values-requires
-values-requires c = record { sound = search rules; name_bound = search rules; narrow = narrow-same 32 (omega arith); widths_len_bound = omega arith }
-
-pub returns-then-a-eq0 : goal.returns-then-a-eq0
-unfolding room_geometry
-returns-then-a-eq0 c = search readings depth 14
+values-requires c = record { name_bound = search rules; narrow = narrow-same 32 (omega arith); widths_len_bound = omega arith }
 
 pub returns : goal.returns
 unfolding room_geometry
 returns c = search readings depth 14
+
+pub returns-2 : goal.returns-2
+unfolding room_geometry
+returns-2 c = search readings depth 14
+
+pub returns-then-fallback-eq0 : goal.returns-then-fallback-eq0
+unfolding room_geometry
+returns-then-fallback-eq0 c = search readings depth 14
+
+pub returns-3 : goal.returns-3
+unfolding room_geometry
+returns-3 c = search (readings, ends_now) depth 14

@@ -1,16 +1,11 @@
-use Prim.Native.Nat.{◌+◌, ◌-◌, ◌*◌, ◌≤◌}
-use mathlib.Core.Path.{◌≡◌}
-use lib.ListN.{length}
+use Prim.Native.Nat.{◌+◌, ◌-◌, ◌*◌}
 use Rattle.rules.specs.Name.{third}
 use Rattle.rules.specs.Derived.{fold}
-use Rattle.rules.proofs.Left.{Left}
+use Rattle.parser.proofs.Left.{Left}
 use Rattle.speakers.specs.Speakers.{speaker, speakers}
 use Rattle.speakers.proofs.speakers.Given as goal
 
 -- the speakers from `i` on are left to be read
 abbrev pub invariant-loop-i : goal.invariant-loop-i
 invariant-loop-i l =
-    (l.i ≤ l.n) × (length l.words ≡ length l.initial.words) × Left (speakers l.p l.n) l.bytes l.initial.words l.initial.t (fold (λ i' _. speaker (l.p + third * i')) l.i (l.n - l.i) tt) l.t l.words
-
-abbrev pub decreases-loop-i : goal.decreases-loop-i
-decreases-loop-i l = l.n - l.i
+    Left (speakers l.p l.n) l.initial.parser (fold (λ j _. speaker (l.p + third * j)) l.i (l.n - l.i) tt) l.parser

@@ -1,13 +1,9 @@
-use borrow.Author.Tests.{le-leb, lt-leb}
+use borrow.Author.Tests.{lt-leb}
 use Rattle.rules.specs.Reading.{reading}
 use Rattle.rules.specs.Derived.{demand}
-use Rattle.validation.specs.Validation.{validate_graph, validation_reading}
+use Rattle.validation.specs.Validation.{validation_reading}
 use Rattle.validation.proofs.validate_graph.Goals as goal
 
 pub returns-then-count-gt-POSITIONS : goal.returns-then-count-gt-POSITIONS
 unfolding validation_reading reading demand
 returns-then-count-gt-POSITIONS c = rw (lt-leb _ _ c.if-count-gt-POSITIONS.true) c.answer.ensures
-
-pub returns : goal.returns
-unfolding validation_reading validate_graph
-returns c = rw (le-leb _ _ c.if-count-gt-POSITIONS.false, ← c.verdict-number.ensures) c.answer-2.ensures

@@ -1,26 +1,28 @@
-use mathlib.Core.Path.{◌≡◌, refl, sym, ◌∙◌}
+use mathlib.Core.Path.{refl, sym, ◌∙◌}
+use native.Mathlib.Omega.{arith}
+use Rattle.std.proofs.lemmas.Grind.{common_steps}
 use borrow.Author.Rules.{rules}
-use lib.ListN.{length}
-use Rattle.rules.proofs.Answers.{entry_broken}
-use Rattle.positions.proofs.Then.{behind_entry}
-use Rattle.update.proofs.Questions.{question_met, few_shapes, shapes_shaped}
+use Rattle.parser.proofs.Laws.{first_unit, ended_first, giving_as}
+use Rattle.parser.proofs.Entered.{own_met}
+use Rattle.update.proofs.Questions.{few_shapes, shapes_shaped}
 use Rattle.update.proofs.undecided.entered.Goals as goal
-
-pub updated-requires : goal.updated-requires
-updated-requires c =
-    let met = question_met _ (sym c.requires.own_value ∙ c.if-own-eq0.true) in
-    let long : length c.args.shapes ≡ 63 = search rules in
-    record {
-      sound = search rules;
-      count_bound = few_shapes c.args.shapes _ met;
-      by_index = shapes_shaped c.args.shapes _ met long;
-    }
-
-pub returns-then-own-eq0 : goal.returns-then-own-eq0
-returns-then-own-eq0 c =
-    behind_entry _ _ _ _ (sym c.requires.own_value) c.entry-t.ensures c.updated.ensures
 
 pub returns : goal.returns
 returns c =
-    let own = sym c.requires.own_value in
-    record { met = entry_broken _ _ _ _ _ own c.entry-t.ensures c.if-own-eq0.false; others = refl; long = refl }
+    let read = rw c.question-own.ensures.number at c.entry.ensures in
+    record { met = ended_first _ read (search rules); others = refl }
+
+pub slice_bounds-updated-end : goal.slice_bounds-updated-end
+slice_bounds-updated-end c =
+    let few = few_shapes _ _ c.told-shapes (sym c.question-own.ensures.number ∙ own_met _ _ _ c.entry.ensures (search rules)) in
+    search rules
+
+pub updated-requires-clause-by_index : goal.updated-requires-clause-by_index
+updated-requires-clause-by_index c =
+    shapes_shaped _ _ c.told-shapes (sym c.question-own.ensures.number ∙ own_met _ _ _ c.entry.ensures (search rules))
+
+pub returns-2 : goal.returns-2
+returns-2 c =
+    let few = few_shapes _ _ c.told-shapes (sym c.question-own.ensures.number ∙ own_met _ _ _ c.entry.ensures (search rules)) in
+    let read = rw c.question-own.ensures.number at c.entry.ensures in
+    record { met = giving_as c.updated.result (grind (arith, common_steps)) (first_unit _ read (search rules) c.updated.ensures); others = grind (arith, common_steps) }

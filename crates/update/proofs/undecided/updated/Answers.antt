@@ -1,7 +1,14 @@
-use Rattle.positions.proofs.Then.{then_asked}
+use mathlib.Core.Path.{ap}
+use borrow.Author.Rules.{rules}
+use Rattle.parser.specs.Met.{giving}
 use Rattle.update.specs.Update.{graph_update, update_fields}
+use Rattle.validation.proofs.Asked.{valid_after, valid_ended}
 use Rattle.update.proofs.undecided.updated.Goals as goal
 
 pub returns : goal.returns
 unfolding graph_update update_fields
-returns c = then_asked _ c.positions-a.ensures c.validated-s2.ensures
+returns c = valid_ended c.positions.ensures (search rules)
+
+pub returns-2 : goal.returns-2
+unfolding graph_update update_fields
+returns-2 c = valid_after c.positions.ensures c.validated.result (search rules) c.validated.ensures.number c.validated.ensures.refuses

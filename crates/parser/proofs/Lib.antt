@@ -1,0 +1,11 @@
+pub mod Laws
+pub mod Steps
+pub mod Left
+pub mod Forward
+pub mod Loops
+pub mod Fold
+pub mod Each
+pub mod Choice
+pub mod Answers
+pub mod Entered
+pub mod Linked

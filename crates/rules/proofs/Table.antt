@@ -1,0 +1,2 @@
+-- For the crates that do not name `bits`.
+pub use Rattle.bits.proofs.Table.{HasAt}
