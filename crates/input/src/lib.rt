@@ -8,18 +8,27 @@ use std::fmt::Display;
 use std::io::{self, Read};
 use std::process::ExitCode;
 
-// Reads until the input ends or the bytes are full, and gives how many were read.
-pub fn read_input<R: Read>(reader: &mut R, bytes: &mut [u8]) -> io::Result<usize>
+// How many bytes were read before a read failed, and why it failed.
+#[derive(Clone, Copy)]
+pub struct FailedRead {
+    pub length: usize,
+    pub error: io::Error,
+}
+
+// Reads until the input ends, the bytes are full or a read fails, and gives how many were read.
+pub fn read_input<R: Read>(reader: &mut R, bytes: &mut [u8]) -> Result<usize, FailedRead>
     ensures in_bounds { IfOk result (λ n. n ≤ length bytes.new) }
     ensures prefix { IfOk result (λ n. n ≡ length (take n bytes.new)) }
+    ensures failed_in_bounds { IfErr result (λ failed. failed.length ≤ length bytes.new) }
+    ensures failed_prefix { IfErr result (λ failed. failed.length ≡ length (take failed.length bytes.new)) }
 {
     let mut length = 0;
     while length < bytes.len() {
-        let more = reader.read(&mut bytes[length..])?;
-        if more == 0 {
-            break;
+        match reader.read(&mut bytes[length..]) {
+            Ok(0) => break,
+            Ok(more) => length += more,
+            Err(error) => return Err(FailedRead { length, error }),
         }
-        length += more;
     }
     Ok(length)
 }

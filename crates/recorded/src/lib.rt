@@ -49,10 +49,18 @@ pub fn number(bytes: &[u8]) -> u64 {
         .fold(0, |number, &byte| number << 8 | byte as u64)
 }
 
+// Reads the next bytes of the input, and gives how many there are: a read that fails ends it.
+pub fn read_bytes<R: Read>(input: &mut R, bytes: &mut [u8]) -> usize {
+    match input::read_input(input, bytes) {
+        Ok(length) => length,
+        Err(failed) => failed.length,
+    }
+}
+
 // The next bytes of the input. Those that are not there are 0, and show as a wrong answer.
 pub fn next_bytes<const N: usize, R: Read>(input: &mut R) -> [u8; N] {
     let mut bytes = [0; N];
-    let _ = input::read_input(input, &mut bytes);
+    read_bytes(input, &mut bytes);
     bytes
 }
 
@@ -64,9 +72,9 @@ impl Head {
     // The next head of the input, if it does not end before it.
     pub fn next<R: Read>(input: &mut R) -> Result<Option<Head>, NoRecord> {
         let mut bytes = [0; 34];
-        match input::read_input(input, &mut bytes) {
-            Ok(0) => Ok(None),
-            Ok(34) => Ok(Some(Head(bytes))),
+        match read_bytes(input, &mut bytes) {
+            0 => Ok(None),
+            34 => Ok(Some(Head(bytes))),
             _ => Err(NoRecord),
         }
     }

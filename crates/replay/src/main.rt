@@ -140,7 +140,7 @@ fn name_agrees<R: Read>(reader: &mut R, head: &Head, bytes: &mut [u8]) -> Result
 // Whether the text of a show file is as recorded, if there are as many bytes as the file has.
 fn show_agrees<R: Read>(reader: &mut R, head: &Head, bytes: &mut [u8]) -> Result<bool, NoRecord> {
     let file = bytes.get_mut(..head.size()).ok_or(NoRecord)?;
-    let got = input::read_input(reader, file).unwrap_or(0);
+    let got = recorded::read_bytes(reader, file);
     let mut text = [0; show::TEXT];
     recorded::clear(&mut text);
     let answer = show::show(file, &mut text);
@@ -157,7 +157,7 @@ fn reading_agrees<R: Read>(
 ) -> Result<bool, NoRecord> {
     let bytes = bytes.get_mut(..head.size()).ok_or(NoRecord)?;
     let words = words.get_mut(..head.room()).ok_or(NoRecord)?;
-    let got = input::read_input(reader, bytes).unwrap_or(0);
+    let got = recorded::read_bytes(reader, bytes);
     recorded::clear(words);
     let ran = match head.kind()? {
         Kind::Scene => run_scene(reader, head, bytes, words),

@@ -3,7 +3,7 @@
 #![tactic(auto)]
 
 use parser::Parser;
-use rules::Reason;
+use rules::{Outcome, Reason};
 use std::io::Read;
 
 // The last bit at which a window can end. An end past every input is as good as this one.
@@ -55,10 +55,14 @@ struct Operation {
     name: u64,
 }
 
-// The reason with a number, if one has it.
-fn reason(number: usize) -> Option<Reason> {
+// The reason with a number, if one has it and ends a reading as the code says.
+fn reason(code: Code, number: usize) -> Option<Reason> {
     let short = u16::try_from(number).ok()?;
-    Reason::try_from(short).ok()
+    let reason = Reason::try_from(short).ok()?;
+    match (code, Outcome::from(reason)) {
+        (Code::Refuse, Outcome::Refused(_)) | (Code::Stop, Outcome::Stopped(_)) => Some(reason),
+        _ => None,
+    }
 }
 
 impl Operation {
@@ -105,7 +109,7 @@ impl Operation {
             }
             Code::SetEnd => parser.set_end(first.min(LAST_END))?,
             Code::Refuse | Code::Stop => {
-                if let Some(reason) = reason(first) {
+                if let Some(reason) = reason(self.code, first) {
                     return Err(reason);
                 }
             }
