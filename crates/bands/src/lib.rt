@@ -2,12 +2,20 @@
 // `renderer_radiation`. The names of a pattern begin with the word `p`, those of a band with `q`.
 #![tactic(auto)]
 
-ghost use Rattle.std.specs.Prelude.{◌≤◌, ◌<◌, ◌^◌, IfOk};
+ghost use Rattle.std.specs.Prelude.{◌+◌, ◌*◌, ◌≤◌, ◌<◌, IfOk};
+ghost use Rattle.rules.specs.Name.{third};
 ghost use Rattle.parser.specs.Met.{Met};
-ghost use Rattle.bands.specs.Bands.{renderer_precision, compact_or_precise, angles_and_gain, band_values, band, count_plus_one, each_band, bands};
+ghost use Rattle.bands.specs.Bands.{number_of, renderer_precision, compact_or_precise, angles_and_gain, band_values, band, count_plus_one, bands};
 
 use parser::{Parser, tri};
-use rules::{Field, Reason, leaf};
+use rules::{Field, Names, Reason, leaf};
+
+// What a band holds beside its frequency: the patterns 1 and 2.
+#[derive(Clone, Copy)]
+pub enum Kind {
+    CompactOrPrecise,
+    AnglesAndGain,
+}
 
 // A number of 8, 16 or 32 bits; one of 64 bits stops the reading before it is read.
 pub fn renderer_precision(parser: &mut Parser<'_>, name: u64, width: usize) -> Result<(), Reason>
@@ -21,51 +29,62 @@ pub fn renderer_precision(parser: &mut Parser<'_>, name: u64, width: usize) -> R
 }
 
 // A band of pattern 1: two numbers, compact or of the precision.
-fn compact_or_precise(parser: &mut Parser<'_>, q: u64, width: usize) -> Result<(), Reason>
-    requires q_bound { q < 2 ^ 51 }
-    requires width_bound { width ≤ 64 }
-    ensures { Met (compact_or_precise q width) parser.old result parser.new }
+fn compact_or_precise(parser: &mut Parser<'_>, q: Names<51>, width: usize) -> Result<(), Reason>
+    requires { width ≤ 64 }
+    ensures { Met (compact_or_precise q.word width) parser.old result parser.new }
 {
-    let compact = tri!(parser.flag(q + leaf::BAND_COMPACT));
+    let compact = tri!(parser.flag(q.word + leaf::BAND_COMPACT));
     if compact {
         let widths: [usize; 2] = [3, 8];
-        return parser.passive_values(q + leaf::BAND_ENCODED, Field::FOURTH, &widths);
+        return parser.passive_values(q.word + leaf::BAND_ENCODED, Field::FOURTH, &widths);
     }
-    tri!(renderer_precision(parser, q + leaf::BAND_ENCODED, width));
-    renderer_precision(parser, q + leaf::BAND_ENCODED + Field::FOURTH, width)
+    tri!(renderer_precision(parser, q.word + leaf::BAND_ENCODED, width));
+    renderer_precision(parser, q.word + leaf::BAND_ENCODED + Field::FOURTH, width)
 }
 
 // A band of pattern 2: two numbers of 9 bits, and a gain.
-fn angles_and_gain(parser: &mut Parser<'_>, q: u64, width: usize) -> Result<(), Reason>
-    requires q_bound { q < 2 ^ 51 }
-    requires width_bound { width ≤ 64 }
-    ensures { Met (angles_and_gain q width) parser.old result parser.new }
+fn angles_and_gain(parser: &mut Parser<'_>, q: Names<51>, width: usize) -> Result<(), Reason>
+    requires { width ≤ 64 }
+    ensures { Met (angles_and_gain q.word width) parser.old result parser.new }
 {
     let widths: [usize; 2] = [9, 9];
-    tri!(parser.passive_values(q + leaf::BAND_ENCODED, Field::FOURTH, &widths));
-    renderer_precision(parser, q + leaf::BAND_GAIN_ENCODED, width)
+    tri!(parser.passive_values(q.word + leaf::BAND_ENCODED, Field::FOURTH, &widths));
+    renderer_precision(parser, q.word + leaf::BAND_GAIN_ENCODED, width)
 }
 
 // What follows the frequency of a band.
-fn band_values(parser: &mut Parser<'_>, q: u64, kind: u64, width: usize) -> Result<(), Reason>
-    requires q_bound { q < 2 ^ 51 }
-    requires width_bound { width ≤ 64 }
-    ensures { Met (band_values q kind width) parser.old result parser.new }
+fn band_values(
+    parser: &mut Parser<'_>,
+    q: Names<51>,
+    kind: Kind,
+    width: usize,
+) -> Result<(), Reason>
+    requires { width ≤ 64 }
+    ensures { Met (band_values q.word (number_of kind) width) parser.old result parser.new }
 {
-    if kind == 1 {
-        return compact_or_precise(parser, q, width);
+    match kind {
+        Kind::CompactOrPrecise => compact_or_precise(parser, q, width),
+        Kind::AnglesAndGain => angles_and_gain(parser, q, width),
     }
-    angles_and_gain(parser, q, width)
 }
 
-// One band of pattern 1 or 2.
-fn band(parser: &mut Parser<'_>, q: u64, kind: u64, width: usize) -> Result<(), Reason>
-    requires q_bound { q < 2 ^ 51 }
+// Band `i` of pattern 1 or 2.
+fn band(
+    parser: &mut Parser<'_>,
+    p: Names<38>,
+    i: u64,
+    kind: Kind,
+    width: usize,
+) -> Result<(), Reason>
+    requires i_bound { i < 4097 }
     requires width_bound { width ≤ 64 }
-    ensures { Met (band q kind width) parser.old result parser.new }
+    ensures { Met (band (p.word + third * i) (number_of kind) width) parser.old result parser.new }
 {
-    let unity = tri!(parser.flag(q + leaf::BAND_UNITY));
-    tri!(parser.escaped(q + leaf::BAND_FREQUENCY_MINUS_ONE, [10, 13, 17]));
+    let q = Names {
+        word: p.word + Field::THIRD * i,
+    };
+    let unity = tri!(parser.flag(q.word + leaf::BAND_UNITY));
+    tri!(parser.escaped(q.word + leaf::BAND_FREQUENCY_MINUS_ONE, [10, 13, 17]));
     if unity {
         return Ok(());
     }
@@ -73,41 +92,20 @@ fn band(parser: &mut Parser<'_>, q: u64, kind: u64, width: usize) -> Result<(), 
 }
 
 // The count of bands or of sizes: `count_minus_one`, and question 6.
-pub fn count_plus_one(parser: &mut Parser<'_>, p: u64, least: u64) -> Result<u64, Reason>
-    requires p_bound { p < 2 ^ 38 }
-    requires least_bound { least ≤ 4096 }
-    ensures met { Met (count_plus_one p least) parser.old result parser.new }
+pub fn count_plus_one(parser: &mut Parser<'_>, p: Names<38>, least: u64) -> Result<u64, Reason>
+    requires { least ≤ 4096 }
+    ensures met { Met (count_plus_one p.word least) parser.old result parser.new }
     ensures small { IfOk result (λ v. v < 4097) }
 {
-    let count_minus_one = tri!(parser.escaped(p + leaf::COUNT_MINUS_ONE, [3, 6, 9]));
+    let count_minus_one = tri!(parser.escaped(p.word + leaf::COUNT_MINUS_ONE, [3, 6, 9]));
     parser.count(count_minus_one + 1, least)
 }
 
-// The loop over the bands.
-fn each_band(
-    parser: &mut Parser<'_>,
-    p: u64,
-    kind: u64,
-    width: usize,
-    count: u64,
-) -> Result<(), Reason>
-    requires p_bound { p < 2 ^ 38 }
-    requires width_bound { width ≤ 64 }
-    requires count_bound { count < 4097 }
-    ensures { Met (each_band p kind width count) parser.old result parser.new }
-{
-    for i in 0..count {
-        tri!(band(parser, p + Field::THIRD * i, kind, width));
-    }
-    Ok(())
-}
-
 // Patterns 1 and 2.
-pub fn bands(parser: &mut Parser<'_>, p: u64, kind: u64, width: usize) -> Result<(), Reason>
-    requires p_bound { p < 2 ^ 38 }
-    requires width_bound { width ≤ 64 }
-    ensures { Met (bands p kind width) parser.old result parser.new }
+pub fn bands(parser: &mut Parser<'_>, p: Names<38>, kind: Kind, width: usize) -> Result<(), Reason>
+    requires { width ≤ 64 }
+    ensures { Met (bands p.word (number_of kind) width) parser.old result parser.new }
 {
     let count = tri!(count_plus_one(parser, p, 11));
-    each_band(parser, p, kind, width, count)
+    parser.each(count, |parser, i| band(parser, p, i, kind, width))
 }

@@ -3,40 +3,35 @@
 #![tactic(auto)]
 
 ghost use Rattle.std.specs.Prelude.{◌≡◌, ◌≤◌, ◌<◌, ◌^◌, IfOk};
-ghost use Rattle.rules.specs.Derived.{repeat};
 ghost use Rattle.parser.specs.Met.{Met};
+ghost use Rattle.code_tables.specs.Kind.{number_of};
 ghost use Rattle.code_tables.specs.Tables.{codeword, entries, table, table_count, tables};
 
 use parser::{Parser, tri};
-use rules::{Field, Reason, block, leaf};
+use rules::{Field, Names, Reason, block, leaf};
+
+// The types of compression that have tables, 1 to 3: of probabilities, the first two, which are read alike, or of codewords.
+#[derive(Clone, Copy)]
+pub enum TableKind {
+    FirstProbabilities,
+    SecondProbabilities,
+    Codewords,
+}
 
 // Codeword `j` of the table whose names begin with `q`.
-fn codeword(parser: &mut Parser<'_>, q: u64, j: u64) -> Result<(), Reason>
-    requires q_bound { q < 2 ^ 38 }
-    requires j_bound { j < 4096 }
-    ensures { Met (codeword q j) parser.old result parser.new }
+fn codeword(parser: &mut Parser<'_>, q: Names<38>, j: u64) -> Result<(), Reason>
+    requires { j < 4096 }
+    ensures { Met (codeword q.word j) parser.old result parser.new }
 {
     let width = tri!(parser.escaped(
-        q + leaf::CODE_WIDTH_MINUS_ONE + Field::THIRD * j,
+        q.word + leaf::CODE_WIDTH_MINUS_ONE + Field::THIRD * j,
         [5, 8, 16]
     )) as usize
         + 1;
     if 64 < width {
         return Err(Reason::CodewordWidth);
     }
-    tri!(parser.take(q + leaf::CODE + Field::THIRD * j, width));
-    Ok(())
-}
-
-// The `n` codewords of a table.
-fn codewords(parser: &mut Parser<'_>, q: u64, n: u64) -> Result<(), Reason>
-    requires q_bound { q < 2 ^ 38 }
-    requires n_bound { n ≤ 4096 }
-    ensures { Met (repeat (codeword q) n) parser.old result parser.new }
-{
-    for j in 0..n {
-        tri!(codeword(parser, q, j));
-    }
+    tri!(parser.take(q.word + leaf::CODE + Field::THIRD * j, width));
     Ok(())
 }
 
@@ -49,25 +44,28 @@ fn symbols(width: u64) -> u64
 }
 
 // The entries of a table for symbols of `width` bits.
-fn entries(parser: &mut Parser<'_>, kind: u64, q: u64, width: u64) -> Result<(), Reason>
-    requires q_bound { q < 2 ^ 38 }
-    requires width_bound { width ≤ 12 }
-    ensures { Met (entries kind q width) parser.old result parser.new }
+fn entries(parser: &mut Parser<'_>, kind: TableKind, q: Names<38>, width: u64) -> Result<(), Reason>
+    requires { width ≤ 12 }
+    ensures { Met (entries (number_of kind) q.word width) parser.old result parser.new }
 {
     let n = symbols(width);
-    if kind == 3 {
-        return codewords(parser, q, n);
+    match kind {
+        TableKind::FirstProbabilities | TableKind::SecondProbabilities => {
+            probability::probabilities(parser, q, n)
+        }
+        TableKind::Codewords => parser.each(n, |parser, j| codeword(parser, q, j)),
     }
-    probability::probabilities(parser, q, n)
 }
 
 // Table `i`.
-fn table(parser: &mut Parser<'_>, kind: u64, i: u64) -> Result<(), Reason>
+fn table(parser: &mut Parser<'_>, kind: TableKind, i: u64) -> Result<(), Reason>
     requires { i < 4096 }
-    ensures { Met (table kind i) parser.old result parser.new }
+    ensures { Met (table (number_of kind) i) parser.old result parser.new }
 {
-    let q = block::TABLES + Field::FIRST * i;
-    let width = tri!(parser.escaped(q + leaf::SYMBOL_WIDTH_MINUS_ONE, [5, 8, 16])) + 1;
+    let q = Names {
+        word: block::TABLES + Field::FIRST * i,
+    };
+    let width = tri!(parser.escaped(q.word + leaf::SYMBOL_WIDTH_MINUS_ONE, [5, 8, 16])) + 1;
     if 12 < width {
         return Err(Reason::SymbolWidth);
     }
@@ -83,21 +81,10 @@ fn table_count(parser: &mut Parser<'_>) -> Result<u64, Reason>
     parser.count(n + 1, 5)
 }
 
-// `n` tables.
-fn each_table(parser: &mut Parser<'_>, kind: u64, n: u64) -> Result<(), Reason>
-    requires { n ≤ 4096 }
-    ensures { Met (repeat (table kind) n) parser.old result parser.new }
-{
-    for i in 0..n {
-        tri!(table(parser, kind, i));
-    }
-    Ok(())
-}
-
 // The tables.
-pub fn tables(parser: &mut Parser<'_>, kind: u64) -> Result<(), Reason>
-    ensures { Met (tables kind) parser.old result parser.new }
+pub fn tables(parser: &mut Parser<'_>, kind: TableKind) -> Result<(), Reason>
+    ensures { Met (tables (number_of kind)) parser.old result parser.new }
 {
     let n = tri!(table_count(parser));
-    each_table(parser, kind, n)
+    parser.each(n, |parser, i| table(parser, kind, i))
 }

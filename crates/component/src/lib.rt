@@ -3,10 +3,12 @@
 
 ghost use Rattle.std.specs.Prelude.{◌<◌, ◌^◌, IfOk};
 ghost use Rattle.parser.specs.Met.{Met};
-ghost use Rattle.component.specs.Component.{metadata_esc, metadata_number, second_parameter, both_parameters, component_parameters, component_reference, each_channel_index, channel_indices, channels, component, component_unless_default};
+ghost use Rattle.component.specs.Component.{metadata_esc, metadata_number, second_parameter, both_parameters, component_parameters};
+ghost use Rattle.component.specs.Component.{component_reference, channel_indices, channels, component};
+ghost use Rattle.component.specs.Component.{component_unless_default};
 
 use parser::{Parser, tri};
-use rules::{Field, Reason, leaf};
+use rules::{Field, Names, Reason, leaf};
 
 // `metadata_esc`: an escaped number of the widths that metadata has most often.
 pub fn metadata_esc(parser: &mut Parser<'_>, name: u64) -> Result<u64, Reason>
@@ -25,88 +27,69 @@ pub fn metadata_number(parser: &mut Parser<'_>, name: u64) -> Result<(), Reason>
 }
 
 // The second parameter of a component, if it is there.
-fn second_parameter(parser: &mut Parser<'_>, q: u64) -> Result<(), Reason>
-    requires { q < 2 ^ 38 }
-    ensures { Met (second_parameter q) parser.old result parser.new }
+fn second_parameter(parser: &mut Parser<'_>, q: Names<38>) -> Result<(), Reason>
+    ensures { Met (second_parameter q.word) parser.old result parser.new }
 {
-    let present = tri!(parser.flag(q + leaf::PARAMETER_1_PRESENT));
-    if present {
-        return metadata_number(parser, q + leaf::PARAMETER_1);
-    }
-    Ok(())
+    parser.if_flag(q.word + leaf::PARAMETER_1_PRESENT, |parser| {
+        metadata_number(parser, q.word + leaf::PARAMETER_1)
+    })
 }
 
 // Both parameters of a component.
-fn both_parameters(parser: &mut Parser<'_>, q: u64) -> Result<(), Reason>
-    requires { q < 2 ^ 38 }
-    ensures { Met (both_parameters q) parser.old result parser.new }
+fn both_parameters(parser: &mut Parser<'_>, q: Names<38>) -> Result<(), Reason>
+    ensures { Met (both_parameters q.word) parser.old result parser.new }
 {
-    tri!(metadata_number(parser, q + leaf::PARAMETER_0));
+    tri!(metadata_number(parser, q.word + leaf::PARAMETER_0));
     second_parameter(parser, q)
 }
 
-// The parameters of a component of this type.
-fn component_parameters(parser: &mut Parser<'_>, q: u64, kind: u64) -> Result<(), Reason>
-    requires { q < 2 ^ 38 }
-    ensures { Met (component_parameters q kind) parser.old result parser.new }
+// The parameters of a component of this type, which is asked here alone: an enum would have names for numbers that none explains.
+fn component_parameters(parser: &mut Parser<'_>, q: Names<38>, kind: u64) -> Result<(), Reason>
+    ensures { Met (component_parameters q.word kind) parser.old result parser.new }
 {
     match kind {
-        0 | 2 | 3 => metadata_number(parser, q + leaf::PARAMETER_0),
+        0 | 2 | 3 => metadata_number(parser, q.word + leaf::PARAMETER_0),
         1 | 4 => both_parameters(parser, q),
         _ => Err(Reason::ComponentType),
     }
 }
 
 // A component by its index.
-fn component_reference(parser: &mut Parser<'_>, q: u64) -> Result<(), Reason>
-    requires { q < 2 ^ 38 }
-    ensures { Met (component_reference q) parser.old result parser.new }
+fn component_reference(parser: &mut Parser<'_>, q: Names<38>) -> Result<(), Reason>
+    ensures { Met (component_reference q.word) parser.old result parser.new }
 {
-    tri!(metadata_number(parser, q + leaf::COMPONENT_INDEX));
-    let kind = tri!(parser.take(q + leaf::COMPONENT_TYPE, 3));
+    tri!(metadata_number(parser, q.word + leaf::COMPONENT_INDEX));
+    let kind = tri!(parser.take(q.word + leaf::COMPONENT_TYPE, 3));
     component_parameters(parser, q, kind)
 }
 
-// So many channels by their indices.
-fn each_channel_index(parser: &mut Parser<'_>, q: u64, n: u64) -> Result<(), Reason>
-    requires q_bound { q < 2 ^ 38 }
-    requires n_bound { n < 4097 }
-    ensures { Met (each_channel_index q n) parser.old result parser.new }
-{
-    for i in 0..n {
-        tri!(metadata_number(parser, q + leaf::CHANNEL_INDICES + Field::THIRD * i));
-    }
-    Ok(())
-}
-
 // Channels by their indices, if there may be so many.
-fn channel_indices(parser: &mut Parser<'_>, q: u64, n: u64) -> Result<(), Reason>
-    requires { q < 2 ^ 38 }
-    ensures { Met (channel_indices q n) parser.old result parser.new }
+fn channel_indices(parser: &mut Parser<'_>, q: Names<38>, n: u64) -> Result<(), Reason>
+    ensures { Met (channel_indices q.word n) parser.old result parser.new }
 {
     let n = tri!(parser.count(n, 4));
-    each_channel_index(parser, q, n)
+    parser.each(n, |parser, i| {
+        metadata_number(parser, q.word + leaf::CHANNEL_INDICES + Field::THIRD * i)
+    })
 }
 
 // The channels of a group.
-fn channels(parser: &mut Parser<'_>, q: u64) -> Result<(), Reason>
-    requires { q < 2 ^ 38 }
-    ensures { Met (channels q) parser.old result parser.new }
+fn channels(parser: &mut Parser<'_>, q: Names<38>) -> Result<(), Reason>
+    ensures { Met (channels q.word) parser.old result parser.new }
 {
-    let n = tri!(metadata_esc(parser, q + leaf::CHANNEL_COUNT_MINUS_ONE));
-    let contiguous = tri!(parser.flag(q + leaf::CONTIGUOUS_CHANNELS));
+    let n = tri!(metadata_esc(parser, q.word + leaf::CHANNEL_COUNT_MINUS_ONE));
+    let contiguous = tri!(parser.flag(q.word + leaf::CONTIGUOUS_CHANNELS));
     if contiguous {
-        return metadata_number(parser, q + leaf::FIRST_CHANNEL);
+        return metadata_number(parser, q.word + leaf::FIRST_CHANNEL);
     }
     channel_indices(parser, q, n + 1)
 }
 
 // A component: a reference, or channels.
-fn component(parser: &mut Parser<'_>, q: u64) -> Result<(), Reason>
-    requires { q < 2 ^ 38 }
-    ensures { Met (component q) parser.old result parser.new }
+fn component(parser: &mut Parser<'_>, q: Names<38>) -> Result<(), Reason>
+    ensures { Met (component q.word) parser.old result parser.new }
 {
-    let reference = tri!(parser.flag(q + leaf::COMPONENT_REFERENCE));
+    let reference = tri!(parser.flag(q.word + leaf::COMPONENT_REFERENCE));
     if reference {
         return component_reference(parser, q);
     }
@@ -114,13 +97,8 @@ fn component(parser: &mut Parser<'_>, q: u64) -> Result<(), Reason>
 }
 
 // A component, unless the group is the default.
-pub fn component_unless_default(parser: &mut Parser<'_>, q: u64) -> Result<(), Reason>
-    requires { q < 2 ^ 38 }
-    ensures { Met (component_unless_default q) parser.old result parser.new }
+pub fn component_unless_default(parser: &mut Parser<'_>, q: Names<38>) -> Result<(), Reason>
+    ensures { Met (component_unless_default q.word) parser.old result parser.new }
 {
-    let default = tri!(parser.flag(q + leaf::DEFAULT));
-    if default {
-        return Ok(());
-    }
-    component(parser, q)
+    parser.unless_flag(q.word + leaf::DEFAULT, |parser| component(parser, q))
 }

@@ -3,8 +3,10 @@
 
 ghost use Rattle.std.specs.Prelude.{◌≤◌, ◌<◌, ◌^◌};
 ghost use Rattle.parser.specs.Met.{Met};
+ghost use Rattle.code_tables.specs.Kind.{number_of};
 ghost use Rattle.compression.specs.Compression.{parameter, parameter_if_present, padding, padded_tables, contents, metadata_compression};
 
+use code_tables::TableKind;
 use parser::{Parser, tri};
 use rules::{Reason, block, leaf};
 
@@ -19,18 +21,17 @@ fn parameter(parser: &mut Parser<'_>) -> Result<(), Reason>
     Err(Reason::BadProbabilities)
 }
 
-// The parameter, if it is there: type 3 has none.
-fn parameter_if_present(parser: &mut Parser<'_>, kind: u64) -> Result<(), Reason>
-    ensures { Met (parameter_if_present kind) parser.old result parser.new }
+// The parameter, if it is there: codewords have none.
+fn parameter_if_present(parser: &mut Parser<'_>, kind: TableKind) -> Result<(), Reason>
+    ensures { Met (parameter_if_present (number_of kind)) parser.old result parser.new }
 {
-    if kind == 3 {
+    if let TableKind::Codewords = kind {
         return Ok(());
     }
-    let present = tri!(parser.flag(block::COMPRESSION + leaf::PARAMETER_PRESENT));
-    if present {
-        return parameter(parser);
-    }
-    Ok(())
+    parser.if_flag(
+        block::COMPRESSION + leaf::PARAMETER_PRESENT,
+        |parser| parameter(parser),
+    )
 }
 
 // Padding up to a whole byte, counted from `start`.
@@ -43,9 +44,9 @@ fn padding(parser: &mut Parser<'_>, start: usize) -> Result<(), Reason>
 }
 
 // Types 1 to 3: tables, a parameter, and padding.
-fn padded_tables(parser: &mut Parser<'_>, kind: u64, start: usize) -> Result<(), Reason>
+fn padded_tables(parser: &mut Parser<'_>, kind: TableKind, start: usize) -> Result<(), Reason>
     requires { start ≤ parser.old.position }
-    ensures { Met (padded_tables kind start) parser.old result parser.new }
+    ensures { Met (padded_tables (number_of kind) start) parser.old result parser.new }
 {
     tri!(code_tables::tables(parser, kind));
     tri!(parameter_if_present(parser, kind));
@@ -59,7 +60,9 @@ fn contents(parser: &mut Parser<'_>, kind: u64, start: usize, width: usize) -> R
 {
     match kind {
         0 => lzw::lzw(parser),
-        1..=3 => padded_tables(parser, kind, start),
+        1 => padded_tables(parser, TableKind::FirstProbabilities, start),
+        2 => padded_tables(parser, TableKind::SecondProbabilities, start),
+        3 => padded_tables(parser, TableKind::Codewords, start),
         _ => parser.passive_bits(block::COMPRESSION + leaf::PAYLOAD, width),
     }
 }

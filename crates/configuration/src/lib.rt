@@ -2,12 +2,14 @@
 // passive_metadata.rs, `metadata_configuration`.
 #![tactic(auto)]
 
-ghost use Rattle.std.specs.Prelude.{◌≤◌, ◌<◌};
+ghost use Rattle.std.specs.Prelude.{◌<◌};
 ghost use Rattle.parser.specs.Met.{Met};
-ghost use Rattle.configuration.specs.Configuration.{compression, compression_if_present, parameter, each_parameter, parameters, parameters_if_present, data_if_present, group, each_group, groups, parameters_and_groups};
+ghost use Rattle.configuration.specs.Configuration.{compression, compression_if_present, parameter, parameters};
+ghost use Rattle.configuration.specs.Configuration.{parameters_if_present, data_if_present, group, groups};
+ghost use Rattle.configuration.specs.Configuration.{parameters_and_groups};
 
 use parser::{Parser, tri};
-use rules::{Field, Reason, block, leaf};
+use rules::{Field, Names, Reason, block, leaf};
 
 // A compression: its type, its bytes and what they hold.
 fn compression(parser: &mut Parser<'_>) -> Result<(), Reason>
@@ -22,11 +24,10 @@ fn compression(parser: &mut Parser<'_>) -> Result<(), Reason>
 pub fn compression_if_present(parser: &mut Parser<'_>) -> Result<(), Reason>
     ensures { Met compression_if_present parser.old result parser.new }
 {
-    let present = tri!(parser.flag(block::METADATA + leaf::COMPRESSION_PRESENT));
-    if present {
-        return compression(parser);
-    }
-    Ok(())
+    parser.if_flag(
+        block::METADATA + leaf::COMPRESSION_PRESENT,
+        |parser| compression(parser),
+    )
 }
 
 // Parameter `i` of the whole configuration.
@@ -34,20 +35,11 @@ fn parameter(parser: &mut Parser<'_>, i: u64) -> Result<(), Reason>
     requires { i < 128 }
     ensures { Met (parameter i) parser.old result parser.new }
 {
-    let p = block::PARAMETERS + Field::FIRST * i;
-    let kind = tri!(component::metadata_esc(parser, p + leaf::ID));
+    let p = Names {
+        word: block::PARAMETERS + Field::FIRST * i,
+    };
+    let kind = tri!(component::metadata_esc(parser, p.word + leaf::ID));
     global::metadata_global_parameter(parser, p, kind)
-}
-
-// So many parameters.
-fn each_parameter(parser: &mut Parser<'_>, n: u64) -> Result<(), Reason>
-    requires { n ≤ 128 }
-    ensures { Met (each_parameter n) parser.old result parser.new }
-{
-    for i in 0..n {
-        tri!(parameter(parser, i));
-    }
-    Ok(())
 }
 
 // The parameters of the whole configuration, at most 128.
@@ -58,18 +50,17 @@ fn parameters(parser: &mut Parser<'_>) -> Result<(), Reason>
     if Parser::PARAMETERS < n {
         return Err(Reason::TooManyParameters);
     }
-    each_parameter(parser, n)
+    parser.each(n, |parser, i| parameter(parser, i))
 }
 
 // The parameters, if there are any.
 fn parameters_if_present(parser: &mut Parser<'_>) -> Result<(), Reason>
     ensures { Met parameters_if_present parser.old result parser.new }
 {
-    let present = tri!(parser.flag(block::METADATA + leaf::PARAMETERS_PRESENT));
-    if present {
-        return parameters(parser);
-    }
-    Ok(())
+    parser.if_flag(
+        block::METADATA + leaf::PARAMETERS_PRESENT,
+        |parser| parameters(parser),
+    )
 }
 
 // The renderer data of group `i`, if there is any.
@@ -77,11 +68,8 @@ fn data_if_present(parser: &mut Parser<'_>, i: u64) -> Result<(), Reason>
     requires { i < 4097 }
     ensures { Met (data_if_present i) parser.old result parser.new }
 {
-    let present = tri!(parser.flag(block::GROUPS + Field::FIRST * i + leaf::DATA_PRESENT));
-    if present {
-        return renderer::renderer_data(parser, i);
-    }
-    Ok(())
+    let present = block::GROUPS + Field::FIRST * i + leaf::DATA_PRESENT;
+    parser.if_flag(present, |parser| renderer::renderer_data(parser, i))
 }
 
 // Group `i`.
@@ -89,21 +77,12 @@ fn group(parser: &mut Parser<'_>, i: u64) -> Result<(), Reason>
     requires { i < 4097 }
     ensures { Met (group i) parser.old result parser.new }
 {
-    let q = block::GROUPS + Field::FIRST * i;
-    tri!(component::metadata_number(parser, q + leaf::ID));
+    let q = Names {
+        word: block::GROUPS + Field::FIRST * i,
+    };
+    tri!(component::metadata_number(parser, q.word + leaf::ID));
     tri!(component::component_unless_default(parser, q));
     data_if_present(parser, i)
-}
-
-// So many groups.
-fn each_group(parser: &mut Parser<'_>, n: u64) -> Result<(), Reason>
-    requires { n < 4097 }
-    ensures { Met (each_group n) parser.old result parser.new }
-{
-    for i in 0..n {
-        tri!(group(parser, i));
-    }
-    Ok(())
 }
 
 // The groups, if there may be so many.
@@ -112,7 +91,7 @@ fn groups(parser: &mut Parser<'_>) -> Result<(), Reason>
 {
     let n = tri!(component::metadata_esc(parser, block::METADATA + leaf::GROUP_COUNT));
     let n = tri!(parser.count(n, 6));
-    each_group(parser, n)
+    parser.each(n, |parser, i| group(parser, i))
 }
 
 // What follows where the configuration is there.

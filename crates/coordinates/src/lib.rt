@@ -1,12 +1,12 @@
 // The coordinates of a position: passive.rs, in `position`. How many bits each has, how many there are, and their fields.
 #![tactic(auto)]
 
-ghost use Rattle.std.specs.Prelude.{◌≡◌, ◌≤◌, ◌<◌, ◌^◌};
+ghost use Rattle.std.specs.Prelude.{◌≡◌, ◌≤◌};
 ghost use Rattle.parser.specs.Met.{Met};
 ghost use Rattle.coordinates.specs.Coordinates.{width_of, bases, how_many, widths_of, coordinate_values};
 
 use parser::Parser;
-use rules::{Field, Reason, leaf};
+use rules::{Field, Names, Reason, leaf};
 
 // A width: four bits narrower in a delta.
 pub fn width(base: usize, precision: usize, delta: bool) -> usize
@@ -48,16 +48,15 @@ fn how_many(polar: bool, precision: usize, delta: bool) -> usize
 // The coordinates.
 pub fn coordinate_values(
     parser: &mut Parser<'_>,
-    p: u64,
+    p: Names<38>,
     polar: bool,
     precision: usize,
     delta: bool,
 ) -> Result<(), Reason>
-    requires precision_bound { precision ≤ 24 }
-    requires p_bound { p < 2 ^ 38 }
-    ensures { Met (coordinate_values p polar precision delta) parser.old result parser.new }
+    requires { precision ≤ 24 }
+    ensures { Met (coordinate_values p.word polar precision delta) parser.old result parser.new }
 {
     let all = widths(polar, precision, delta);
     let count = how_many(polar, precision, delta);
-    parser.passive_values(p + leaf::POSITION_ENCODED, Field::THIRD, &all[..count])
+    parser.passive_values(p.word + leaf::POSITION_ENCODED, Field::THIRD, &all[..count])
 }

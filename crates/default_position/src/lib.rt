@@ -2,18 +2,16 @@
 // from what else both call, so that only these kinds of parameters wait for positions.
 #![tactic(auto)]
 
-ghost use Rattle.std.specs.Prelude.{◌<◌, ◌^◌};
 ghost use Rattle.parser.specs.Met.{Met};
 ghost use Rattle.default_position.specs.DefaultPosition.{default_position};
 
 use parser::{Parser, tri};
 use position::PositionSyntax;
-use rules::Reason;
+use rules::{Names, Reason};
 
 // A full position, whose shape is of no use here.
-pub fn default_position(parser: &mut Parser<'_>, p: u64) -> Result<(), Reason>
-    requires { p < 2 ^ 38 }
-    ensures { Met (default_position p) parser.old result parser.new }
+pub fn default_position(parser: &mut Parser<'_>, p: Names<38>) -> Result<(), Reason>
+    ensures { Met (default_position p.word) parser.old result parser.new }
 {
     let shape = PositionSyntax::default();
     tri!(position::position(parser, p, shape, true));

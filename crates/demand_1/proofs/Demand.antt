@@ -8,6 +8,7 @@ use native.Mathlib.Omega.{arith}
 use borrow.Author.Tests.{leb-true, leb-false}
 use lib.Dec.{leb, ltb, eqb}
 use lib.ListN.{length, take, drop, take-append-drop}
+use Rattle.std.specs.Prelude.{Result, Ok}
 use Rattle.rules.specs.declared.Answer.{Answer}
 use Rattle.rules.specs.declared.Outcome.{Outcome}
 use Rattle.rules.specs.Rule.{refused}
@@ -39,8 +40,7 @@ use Rattle.book.specs.Book.{packet_of, is_accepted, book_scene, book_reading, sc
 use Rattle.book.proofs.Book.{first_many, scene_counts}
 use Rattle.show_header.specs.Header.{part_count, part_of, file_question}
 use Rattle.show_parts.specs.Parts.{packet}
-use Rattle.part.specs.declared.PartAnswer.{PartAnswer}
-use Rattle.part.specs.declared.PartAnswer.TheVariants.{Ended}
+use Rattle.part.specs.declared.NotRead.{NotRead}
 use Rattle.part.specs.Part.{Listed, listed, shapes_before, part_from, update_listed, sound_listed, part_listed, PartAnswered}
 use Rattle.listings.proofs.Printed.{part_explained}
 use Rattle.demand_1.specs.Demand.{KeptFrom, Kept, SceneKept, UpdateKept, Validated, NameKept, Said, Crossed, PartKept, Demand1}
@@ -125,7 +125,7 @@ name_exported {bytes = bytes} {after = after} m = crosses (NameKept bytes after)
 -- A part, whose number has a meaning, if it was read
 module _ (file : List ℕ) (k offset : ℕ) (ws : List ℕ) where
   abbrev PartSaid : Listed → Type 0
-  PartSaid x = ((a : Answer) → Ended a ≡ x.answer → Explained a.outcome) → PartKept (part_of file k) ws x.answer (recorded true ws 0 x.fields)
+  PartSaid x = ((a : Answer) → ◌≡◌ {A = Result Answer NotRead} (Ok a) x.answer → Explained a.outcome) → PartKept (part_of file k) ws x.answer (recorded true ws 0 x.fields)
 
   listed_kept : (x : Reading (List PositionSyntax)) → x.position ≤ 8 * length (part_of file k) → PartSaid (listed x)
   listed_kept x place number =
@@ -149,7 +149,7 @@ module _ (file : List ℕ) (k offset : ℕ) (ws : List ℕ) where
       (λ _ _. recorded_none true ws 0))
       (λ _. listed_kept (ended_at (refused (file_question file)) 0 0) (omega arith))
 
-  part_kept : {r : PartAnswer} {vs : List ℕ} → PartAnswered (part_listed file k (part_from file k offset ws)) ws r vs → PartKept (part_of file k) ws r vs
+  part_kept : {r : Result Answer NotRead} {vs : List ℕ} → PartAnswered (part_listed file k (part_from file k offset ws)) ws r vs → PartKept (part_of file k) ws r vs
   part_kept m = rw (m.answer, m.words) (part_said (λ a e. part_explained file k offset ws (record { answer = e; words = refl })))
 
 pub demand_1 : Demand1

@@ -1,6 +1,6 @@
 -- Demand 1, of every call: what it may answer, and what it leaves of all that it was lent. docs/DECISIONS.md holds it beside the
 -- customer's words.
-use Rattle.std.specs.Prelude.{ℕ, ◌*◌, ◌≤◌, ◌<◌, ◌≡◌, List, Bool, true, false, ◌⊎◌, length, take, drop}
+use Rattle.std.specs.Prelude.{ℕ, ◌*◌, ◌≤◌, ◌<◌, ◌≡◌, List, Bool, true, false, ◌⊎◌, length, take, drop, Result, Ok, Err}
 use Rattle.rules.specs.declared.Answer.{Answer}
 use Rattle.rules.specs.declared.Outcome.{Outcome}
 use Rattle.rules.specs.declared.Outcome.TheVariants.{Read, Refused}
@@ -23,8 +23,7 @@ use Rattle.gateway.specs.Exported.{SceneExported, NameExported}
 use Rattle.known_names.specs.Known.{Explained}
 use Rattle.show_header.specs.Header.{part_of}
 use Rattle.show.specs.Show.{ShowAnswered}
-use Rattle.part.specs.declared.PartAnswer.{PartAnswer}
-use Rattle.part.specs.declared.PartAnswer.TheVariants.{Ended, NoPart, NoScene}
+use Rattle.part.specs.declared.NotRead.{NotRead}
 use Rattle.part.specs.Part.{part_from, part_listed, PartAnswered}
 
 -- from place n on as it came
@@ -86,10 +85,9 @@ pub record Crossed (P : Outcome → ℕ → ℕ → Type 0) (r : GatewayAnswer) 
   pub said : P outcome r.position r.counted
 
 -- A part of a show, which is lent words alone. One that is not there, or not read for want of a scene, leaves them.
-abbrev pub PartKept : List ℕ → List ℕ → PartAnswer → List ℕ → Type 0
-PartKept part ws (Ended a) vs = Said (Kept {A = Unit {0}} part true ws tt tt vs) a
-PartKept part ws NoPart vs = vs ≡ ws
-PartKept part ws NoScene vs = vs ≡ ws
+abbrev pub PartKept : List ℕ → List ℕ → Result Answer NotRead → List ℕ → Type 0
+PartKept part ws (Ok a) vs = Said (Kept {A = Unit {0}} part true ws tt tt vs) a
+PartKept part ws (Err e) vs = vs ≡ ws
 
 -- Whatever the bytes, the offset, the recording, the words and the shapes are: each line is of the functions named above it, and
 -- from their contract as it stands in the source.
@@ -130,7 +128,7 @@ pub record Demand1 : Type 0 where
   pub exported_name : (word : ℕ) (bytes : List ℕ) (r : GatewayAnswer) (after : List ℕ) →
       NameExported word (name_question word (length bytes)) bytes r after → Crossed (NameKept bytes after) r
   -- `part::read_part`: the position is one of the part
-  pub part : (file : List ℕ) (k offset : ℕ) (ws : List ℕ) (r : PartAnswer) (vs : List ℕ) →
+  pub part : (file : List ℕ) (k offset : ℕ) (ws : List ℕ) (r : Result Answer NotRead) (vs : List ℕ) →
       PartAnswered (part_listed file k (part_from file k offset ws)) ws r vs → PartKept (part_of file k) ws r vs
   -- `show::show`, of a file that is refused too: its line is the text that is put
   pub show : (file before : List ℕ) (r : TextAnswer) (after : List ℕ) →

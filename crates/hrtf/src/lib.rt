@@ -2,42 +2,46 @@
 // the word `p`.
 #![tactic(auto)]
 
-ghost use Rattle.std.specs.Prelude.{◌<◌, ◌^◌};
 ghost use Rattle.parser.specs.Met.{Met};
 ghost use Rattle.hrtf.specs.Hrtf.{hrtf_resource, hrtf_type, hrtf};
 
 use parser::{Parser, tri};
-use rules::{Reason, leaf};
+use rules::{Names, Reason, leaf};
 
 // Kind 7, type 2: a resource, which is stopped after its mode.
-fn hrtf_resource(parser: &mut Parser<'_>, p: u64) -> Result<(), Reason>
-    requires { p < 2 ^ 38 }
-    ensures { Met (hrtf_resource p) parser.old result parser.new }
+fn hrtf_resource(parser: &mut Parser<'_>, p: Names<38>) -> Result<(), Reason>
+    ensures { Met (hrtf_resource p.word) parser.old result parser.new }
 {
-    tri!(common::metadata_resource(parser, p + leaf::RESOURCE));
-    tri!(parser.take(p + leaf::MODE, 3));
+    let resource = Names {
+        word: p.word + leaf::RESOURCE,
+    };
+    tri!(common::metadata_resource(parser, resource));
+    tri!(parser.take(p.word + leaf::MODE, 3));
     Err(Reason::HrtfType2)
 }
 
-// What follows the type.
-fn hrtf_type(parser: &mut Parser<'_>, p: u64, kind: u64) -> Result<(), Reason>
-    requires { p < 2 ^ 38 }
-    ensures { Met (hrtf_type p kind) parser.old result parser.new }
+// What follows the type, which is asked here alone: an enum of the three types that are read would be matched at once.
+fn hrtf_type(parser: &mut Parser<'_>, p: Names<38>, kind: u64) -> Result<(), Reason>
+    ensures { Met (hrtf_type p.word kind) parser.old result parser.new }
 {
     match kind {
         0 => Ok(()),
-        1 => common::number(parser, p + leaf::INDEX, 8),
+        1 => common::number(parser, p.word + leaf::INDEX, 8),
         2 => hrtf_resource(parser, p),
         _ => Err(Reason::HrtfType),
     }
 }
 
 // A head-related transfer function.
-pub fn hrtf(parser: &mut Parser<'_>, p: u64) -> Result<(), Reason>
-    requires { p < 2 ^ 38 }
-    ensures { Met (hrtf p) parser.old result parser.new }
+pub fn hrtf(parser: &mut Parser<'_>, p: Names<38>) -> Result<(), Reason>
+    ensures { Met (hrtf p.word) parser.old result parser.new }
 {
-    tri!(common::number_if(parser, p + leaf::VALUE_PRESENT, p + leaf::VALUE_ENCODED, 32));
-    let kind = tri!(parser.take(p + leaf::TYPE, 3));
+    tri!(common::number_if(
+        parser,
+        p.word + leaf::VALUE_PRESENT,
+        p.word + leaf::VALUE_ENCODED,
+        32
+    ));
+    let kind = tri!(parser.take(p.word + leaf::TYPE, 3));
     hrtf_type(parser, p, kind)
 }

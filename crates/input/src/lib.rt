@@ -1,7 +1,8 @@
 // Standard input, or what any reader gives, read into lent bytes or into a list; and a failure told on standard error.
 #![tactic(auto)]
 
-ghost use Rattle.std.specs.Prelude.{◌≡◌, ◌≤◌, length, take, IfOk, IfErr, IfSome, OnOk};
+ghost use Rattle.std.specs.Prelude.{◌≡◌, ◌≤◌, ◌<◌, length, take, IfOk, IfErr, IfSome, OnOk};
+ghost use Rattle.std.specs.Io.KnownBytes.{Consumes, IsAtEnd};
 
 use std::alloc::Global;
 use std::fmt::Display;
@@ -19,8 +20,11 @@ pub struct FailedRead {
 pub fn read_input<R: Read>(reader: &mut R, bytes: &mut [u8]) -> Result<usize, FailedRead>
     ensures in_bounds { IfOk result (λ n. n ≤ length bytes.new) }
     ensures prefix { IfOk result (λ n. n ≡ length (take n bytes.new)) }
+    ensures read { IfOk result (λ n. Consumes (R.remaining reader.old) (R.remaining reader.new) (take n bytes.new)) }
+    ensures ended { IfOk result (λ n. n < length bytes.new → IsAtEnd (R.remaining reader.new)) }
     ensures failed_in_bounds { IfErr result (λ failed. failed.length ≤ length bytes.new) }
     ensures failed_prefix { IfErr result (λ failed. failed.length ≡ length (take failed.length bytes.new)) }
+    ensures failed_read { IfErr result (λ failed. Consumes (R.remaining reader.old) (R.remaining reader.new) (take failed.length bytes.new)) }
 {
     let mut length = 0;
     while length < bytes.len() {

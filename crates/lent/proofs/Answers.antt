@@ -8,8 +8,8 @@ use borrow.Author.Tests.{leb-true}
 use lib.Dec.{leb}
 use lib.ListN.{length, take}
 use Rattle.rules.specs.declared.Answer.{Answer}
-use Rattle.rules.specs.Reading.{Reading, Input, is_read}
-use Rattle.rules.specs.Answer.{answer_of, outcome_of, value_or, Answered}
+use Rattle.rules.specs.Reading.{Input, is_read}
+use Rattle.rules.specs.Answer.{outcome_of, Answered}
 use Rattle.rules.proofs.Laws.{never}
 use Rattle.rules.proofs.Answers.{value_unread, value_of_read, entry_any, entry_unread}
 use Rattle.position.specs.declared.PositionSyntax.{PositionSyntax}

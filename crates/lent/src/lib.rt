@@ -1,5 +1,5 @@
-// Shapes that a caller lends: the readings over `&mut PositionSyntax` and `&mut [PositionSyntax]`. A lent shape is written only
-// where the reading was accepted.
+// Shapes that a caller lends: the readings over `&mut PositionSyntax` and `&mut [PositionSyntax]`. Unless the reading was accepted
+// they stay as they came.
 #![tactic(auto)]
 
 ghost use Rattle.std.specs.Prelude.{◌≡◌, ◌≤◌, length, take};
@@ -20,8 +20,8 @@ fn array_of(shapes: &[PositionSyntax]) -> [PositionSyntax; 63]
     if shapes.len() > Parser::POSITIONS {
         return array;
     }
-    for i in 0..shapes.len() {
-        array[i] = shapes[i];
+    for (i, shape) in shapes.iter().enumerate() {
+        array[i] = *shape;
     }
     array
 }
@@ -31,8 +31,8 @@ fn write_back(shapes: &mut [PositionSyntax], array: &[PositionSyntax; 63])
     requires { length shapes.old ≤ 63 }
     ensures { shapes.new ≡ take (length shapes.old) array.now }
 {
-    for i in 0..shapes.len() {
-        shapes[i] = array[i];
+    for (i, shape) in shapes.iter_mut().enumerate() {
+        *shape = array[i];
     }
 }
 

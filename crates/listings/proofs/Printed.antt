@@ -2,12 +2,13 @@
 -- whatever words it is lent. Of a part from bit 0 on that is what the show prints of it (`shown_update` of the crate `part`). And
 -- `a number without a meaning` is never printed.
 use Prim.Native.Nat.{ℕ, ◌*◌, ◌≤◌}
-use mathlib.Core.Path.{◌≡◌, refl, ap, ◌∙◌}
+use mathlib.Core.Path.{◌≡◌, refl, ap}
 use mathlib.Core.List.{List, []}
 use mathlib.Core.Bool.{true, false}
 use native.Mathlib.Omega.{arith}
 use lib.Dec.{eqb, ltb, leb}
 use lib.ListN.{length}
+use Rattle.std.specs.Prelude.{Result, Ok, Err}
 use Rattle.rules.specs.declared.Answer.{Answer}
 use Rattle.rules.specs.declared.Outcome.{Outcome}
 use Rattle.rules.specs.declared.Outcome.TheVariants.{Read}
@@ -29,8 +30,8 @@ use Rattle.book.specs.Book.{Packet, is_accepted, book_scene, book_reading, scene
 use Rattle.book.proofs.Book.{scene_is, update_is}
 use Rattle.show_header.specs.Header.{part_count, part_of, is_sound, file_question}
 use Rattle.show_parts.specs.Parts.{packet}
-use Rattle.part.specs.declared.PartAnswer.{PartAnswer}
-use Rattle.part.specs.declared.PartAnswer.TheVariants.{Ended, NoPart, NoScene}
+use Rattle.part.specs.declared.NotRead.{NotRead}
+use Rattle.part.specs.declared.NotRead.TheVariants.{NoPart, NoScene}
 use Rattle.part.specs.Part.{Listed, listed, unlisted, shapes_before, part_from, update_listed, sound_listed, part_listed, PartAnswered}
 use Rattle.known_names.specs.Known.{Known, AllKnown, Explained}
 use Rattle.known_names.proofs.Scene.{scene_known}
@@ -57,19 +58,17 @@ module _ (bs ws : List ℕ) (offset : ℕ) where
   pub metadata_enough : 81920 ≤ length ws → metadata_reading (input_of bs true ws) offset ≡ metadata_reading (input_of bs false []) offset
   metadata_enough h = enough bs 0 (length ws) _ 0 0 h
 
-fields_of : PartAnswer → ℕ
-fields_of (Ended answer) = answer.fields
-fields_of NoPart = 0
-fields_of NoScene = 0
+fields_of : Result Answer NotRead → ℕ
+fields_of (Ok answer) = answer.fields
+fields_of (Err e) = 0
 
-outcome_in : PartAnswer → Outcome
-outcome_in (Ended answer) = answer.outcome
-outcome_in NoPart = Read
-outcome_in NoScene = Read
+outcome_in : Result Answer NotRead → Outcome
+outcome_in (Ok answer) = answer.outcome
+outcome_in (Err e) = Read
 
 -- A part's answer tells how many fields go with it, and all of them have known names and are in the words; and its number has words.
 record Whole (ws : List ℕ) (x : Listed) : Type 0 where
-  counted : (answer : Answer) → Ended answer ≡ x.answer → answer.fields ≡ length x.fields
+  counted : (answer : Answer) → ◌≡◌ {A = Result Answer NotRead} (Ok answer) x.answer → answer.fields ≡ length x.fields
   known : AllNamed Known x.fields
   room : 5 * length x.fields ≤ length ws
   numbered : Numbered HasWords (outcome_in x.answer)
@@ -90,9 +89,9 @@ module _ (file : List ℕ) (k offset : ℕ) (ws : List ℕ) where
   unfolding fields_of outcome_in
   whole x known room = record { counted = λ answer e. ap fields_of e; known = known.fields; room = room; numbered = known.outcome }
 
-  unread : (a : PartAnswer) → fields_of a ≡ 0 → outcome_in a ≡ Read → Whole ws (unlisted a)
-  unfolding fields_of AllNamed
-  unread a none not-ended = record { counted = λ answer e. ap fields_of e ∙ none; known = tt; room = omega arith; numbered = rw not-ended tt }
+  unread : (a : NotRead) → Whole ws (unlisted a)
+  unfolding fields_of outcome_in AllNamed
+  unread a = record { counted = λ answer e. ap fields_of e; known = tt; room = omega arith; numbered = tt }
 
   whole_entry : (own : ℕ) (r : Rule (List PositionSyntax)) → AllKnown (entry_reading (input_of (part_of file k) true ws) own offset r) →
       Whole ws (listed (entry_reading (input_of (part_of file k) true ws) own offset r))
@@ -110,7 +109,7 @@ module _ (file : List ℕ) (k offset : ℕ) (ws : List ℕ) where
   update_whole =
       by_pick (Whole ws) (is_accepted (scene_step (packet file 0) []).told) _ _
       (λ _. packet_whole (shapes_before file k))
-      (λ _. unread NoScene refl refl)
+      (λ _. unread NoScene)
 
   part_whole : Whole ws (part_listed file k asked)
   unfolding part_listed sound_listed fields_of outcome_in AllNamed
@@ -118,15 +117,15 @@ module _ (file : List ℕ) (k offset : ℕ) (ws : List ℕ) where
       by_pick (Whole ws) (eqb (file_question file) 0) _ _
       (λ _. by_pick (Whole ws) (ltb k (part_count file)) _ _
       (λ _. by_pick (Whole ws) (eqb k 0) _ _ (λ _. scene_whole) (λ _. update_whole))
-      (λ _. unread NoPart refl refl))
+      (λ _. unread NoPart))
       (λ e. whole (ended_at (refused (file_question file)) 0 0) (record { fields = tt; outcome = file_words file e }) (omega arith))
 
-  pub part_printed : {answer : Answer} {vs : List ℕ} → PartAnswered (part_listed file k asked) ws (Ended answer) vs →
+  pub part_printed : {answer : Answer} {vs : List ℕ} → PartAnswered (part_listed file k asked) ws (Ok answer) vs →
       printed answer vs ≡ part_listing (part_listed file k asked)
   part_printed {answer} {vs} told =
       rw (← told.answer) (printed_lines ws vs _ part_whole.known part_whole.room told.words answer (part_whole.counted answer told.answer))
 
   -- and its number has words, also if it is that of a file which is not a show
-  pub part_explained : {answer : Answer} {vs : List ℕ} → PartAnswered (part_listed file k asked) ws (Ended answer) vs → Explained answer.outcome
+  pub part_explained : {answer : Answer} {vs : List ℕ} → PartAnswered (part_listed file k asked) ws (Ok answer) vs → Explained answer.outcome
   unfolding outcome_in
   part_explained told = explained _ (rw (← told.answer) at part_whole.numbered)

@@ -1,8 +1,7 @@
 -- What `scene-fields` prints: the line of each counted field of the words, and then that of the outcome.
-use Rattle.std.specs.Prelude.{ℕ, zero, suc, ◌+◌, List, [], ◌++◌}
+use Rattle.std.specs.Prelude.{ℕ, zero, suc, ◌+◌, List, [], ◌++◌, Result, Ok, Err}
 use Rattle.rules.specs.declared.Answer.{Answer}
-use Rattle.part.specs.declared.PartAnswer.{PartAnswer}
-use Rattle.part.specs.declared.PartAnswer.TheVariants.{Ended, NoPart, NoScene}
+use Rattle.part.specs.declared.NotRead.{NotRead}
 use Rattle.part.specs.Part.{Listed}
 use Rattle.field_lines.specs.FieldLine.{line_at}
 use Rattle.outcome_lines.specs.OutcomeLine.{outcome_line}
@@ -17,10 +16,9 @@ abbrev pub printed : Answer → List ℕ → List ℕ
 printed answer ws = lines ws answer.fields 0 ++ outcome_line answer
 
 -- The listing of a part of a show: nothing of one that is not read.
-abbrev pub part_end : PartAnswer → List ℕ
-part_end (Ended answer) = outcome_line answer
-part_end NoPart = []
-part_end NoScene = []
+abbrev pub part_end : Result Answer NotRead → List ℕ
+part_end (Ok answer) = outcome_line answer
+part_end (Err e) = []
 
 abbrev pub part_listing : Listed → List ℕ
 part_listing x = field_lines x.fields ++ part_end x.answer

@@ -8,13 +8,10 @@ use parser::{Parser, tri};
 use rules::{Reason, block, leaf};
 
 // Stopped by 35 unless the widths of LZW are at most 15 and 16.
-fn lzw_widths(parser: &mut Parser<'_>, initial: u64, maximum: u64) -> Result<(), Reason>
-    ensures { Met (lzw_widths initial maximum) parser.old result parser.new }
+fn lzw_widths(parser: &Parser<'_>, initial: u64, maximum: u64) -> Result<(), Reason>
+    ensures { Met (lzw_widths initial maximum) parser.now result parser.now }
 {
-    if 15 < initial {
-        return Err(Reason::LzwWidth);
-    }
-    if 16 < maximum {
+    if 15 < initial || 16 < maximum {
         return Err(Reason::LzwWidth);
     }
     Ok(())

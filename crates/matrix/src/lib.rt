@@ -7,7 +7,7 @@ ghost use Rattle.parser.specs.Met.{Met};
 ghost use Rattle.matrix.specs.Matrix.{coefficient_count, Within, coefficient_bits, matrix_coefficients, matrix};
 
 use parser::{Parser, tri};
-use rules::{Reason, leaf};
+use rules::{Names, Reason, leaf};
 
 // The low half of a layout.
 fn low_half(layout: u64) -> usize
@@ -26,47 +26,48 @@ fn coefficient_count(layout: u64, order: u64) -> usize
 }
 
 // Kind 22: `count` coefficients of 32 bits, or of 16 and a scale.
-fn coefficient_bits(parser: &mut Parser<'_>, q: u64, count: usize) -> Result<(), Reason>
-    requires q_bound { q < 2 ^ 38 }
-    requires count_bound { count < 2 ^ 25 }
-    ensures { Met (coefficient_bits q count) parser.old result parser.new }
+fn coefficient_bits(parser: &mut Parser<'_>, q: Names<38>, count: usize) -> Result<(), Reason>
+    requires { count < 2 ^ 25 }
+    ensures { Met (coefficient_bits q.word count) parser.old result parser.new }
 {
-    let float = tri!(parser.flag(q + leaf::FLOAT_COEFFICIENTS));
+    let float = tri!(parser.flag(q.word + leaf::FLOAT_COEFFICIENTS));
     if float {
-        return parser.passive_bits(q + leaf::COEFFICIENT_BITS, count * 32);
+        return parser.passive_bits(q.word + leaf::COEFFICIENT_BITS, count * 32);
     }
-    tri!(parser.take(q + leaf::SCALE_BITS, 32));
-    parser.passive_bits(q + leaf::COEFFICIENT_BITS, count * 16)
+    tri!(parser.take(q.word + leaf::SCALE_BITS, 32));
+    parser.passive_bits(q.word + leaf::COEFFICIENT_BITS, count * 16)
 }
 
 // As many coefficients as the layout and the order say.
-fn coefficients(parser: &mut Parser<'_>, q: u64, layout: u64, order: u64) -> Result<(), Reason>
-    requires q_bound { q < 2 ^ 38 }
-    requires order_bound { order < 16 }
-    ensures { Met (coefficient_bits q (coefficient_count layout order)) parser.old result parser.new }
+fn coefficients(
+    parser: &mut Parser<'_>,
+    q: Names<38>,
+    layout: u64,
+    order: u64,
+) -> Result<(), Reason>
+    requires { order < 16 }
+    ensures { Met (coefficient_bits q.word (coefficient_count layout order)) parser.old result parser.new }
 {
     let count = coefficient_count(layout, order);
     coefficient_bits(parser, q, count)
 }
 
 // Kind 22, location 1: coefficients.
-fn matrix_coefficients(parser: &mut Parser<'_>, q: u64) -> Result<(), Reason>
-    requires { q < 2 ^ 38 }
-    ensures { Met (matrix_coefficients q) parser.old result parser.new }
+fn matrix_coefficients(parser: &mut Parser<'_>, q: Names<38>) -> Result<(), Reason>
+    ensures { Met (matrix_coefficients q.word) parser.old result parser.new }
 {
-    let order = tri!(parser.take(q + leaf::ORDER, 4));
-    let layout = tri!(parser.take(q + leaf::LAYOUT_TAG, 32));
+    let order = tri!(parser.take(q.word + leaf::ORDER, 4));
+    let layout = tri!(parser.take(q.word + leaf::LAYOUT_TAG, 32));
     coefficients(parser, q, layout, order)
 }
 
-// Kind 22: a rendering matrix.
-pub fn matrix(parser: &mut Parser<'_>, q: u64) -> Result<(), Reason>
-    requires { q < 2 ^ 38 }
-    ensures { Met (matrix q) parser.old result parser.new }
+// Kind 22: a rendering matrix. A location is used by its arm alone, and an enum would only name each number twice.
+pub fn matrix(parser: &mut Parser<'_>, q: Names<38>) -> Result<(), Reason>
+    ensures { Met (matrix q.word) parser.old result parser.new }
 {
-    let location = tri!(parser.take(q + leaf::LOCATION, 2));
+    let location = tri!(parser.take(q.word + leaf::LOCATION, 2));
     match location {
-        0 | 2 => common::resource_parameters(parser, q),
+        0 | 2 => common::resource_parameters(parser, Names { word: q.word }),
         1 => matrix_coefficients(parser, q),
         _ => Err(Reason::MatrixLocation),
     }

@@ -8,7 +8,7 @@ ghost use Rattle.metadata.specs.Metadata.{configuration_present, metadata_config
 ghost use Rattle.metadata.specs.Entry.{metadata_reading};
 
 use parser::{Parser, tri};
-use rules::{Answer, Outcome, Reason, block, leaf};
+use rules::{Answer, Reason, block, leaf};
 
 // Refused by 10 unless the configuration is there.
 fn configuration_present(parser: &mut Parser<'_>) -> Result<(), Reason>
@@ -43,8 +43,6 @@ pub fn read_metadata(bytes: &[u8], offset: usize, recording: bool, words: &mut [
     ensures { Answered (metadata_reading (input_of bytes.now recording words.old) offset) tt recording words.old result tt words.new }
 {
     let mut parser = Parser::new(bytes, words, recording, 0);
-    match entered(&mut parser, offset) {
-        Ok(()) => parser.answer(Outcome::Read),
-        Err(reason) => parser.answer(Outcome::from(reason)),
-    }
+    let ended = entered(&mut parser, offset);
+    parser.answer(ended)
 }

@@ -3,8 +3,10 @@
 #![tactic(auto)]
 
 ghost use Rattle.std.specs.Prelude.{◌≡◌, ◌+◌, ◌≤◌, length};
-ghost use Rattle.text.specs.Text.{Put};
+ghost use Rattle.text.specs.Writer.{Fits, Wrote};
 ghost use Rattle.name_row.specs.Row.{number_at, in_range, stands_in, character, indexed};
+
+use text::Writer;
 
 // The four digits in the columns from `k` on; a blank counts as 0.
 fn number_at(row: &[u8], k: usize) -> u64
@@ -39,35 +41,29 @@ pub fn stands_in(row: &[u8], block: u8) -> bool
 }
 
 // Puts a character of a row, and after `[` an index.
-fn put_character(out: &mut [u8], at: usize, c: u8, i: u64) -> usize
-    requires { at + length (character c i) ≤ length out.old }
-    ensures { Put out.old at (character c i) result out.new }
+fn put_character(writer: &mut Writer<'_>, c: u8, i: u64)
+    requires { Fits (character c i) writer.old }
+    ensures { Wrote (character c i) writer.old writer.new }
 {
-    out[at] = c;
+    writer.put_byte(c);
     if c == b'[' {
-        return text::put_decimal(out, at + 1, i);
+        writer.put_decimal(i);
     }
-    at + 1
 }
 
 // Puts the text of a row, which ends at a blank: `i` is its first index, and `j` the next.
-pub fn put_row(out: &mut [u8], at: usize, row: &[u8], i: u64, j: u64) -> usize
-    requires { at + length (indexed row.now i j) ≤ length out.old }
-    ensures { Put out.old at (indexed row.now i j) result out.new }
+pub fn put_row(writer: &mut Writer<'_>, row: &[u8], i: u64, j: u64)
+    requires { Fits (indexed row.now i j) writer.old }
+    ensures { Wrote (indexed row.now i j) writer.old writer.new }
 {
-    let mut to = at;
     let mut index = i;
-    let mut k = 0;
-    while k < row.len() {
-        let c = row[k];
-        if c == b' ' {
-            return to;
+    for c in row {
+        if *c == b' ' {
+            return;
         }
-        to = put_character(out, to, c, index);
-        if c == b'[' {
+        put_character(writer, *c, index);
+        if *c == b'[' {
             index = j;
         }
-        k += 1;
     }
-    to
 }

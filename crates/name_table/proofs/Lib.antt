@@ -1,1 +1,2 @@
+pub mod Wide
 pub mod Linked

@@ -1,11 +1,12 @@
 -- What is promised at each way out of the call.
-use Prim.Native.Nat.{ℕ, ◌≤◌, ◌<◌}
-use mathlib.Core.Path.{◌≡◌, refl}
-use mathlib.Core.List.{List}
+use Prim.Native.Nat.{ℕ, ◌+◌, ◌≤◌, ◌<◌}
+use mathlib.Core.Path.{◌≡◌, refl, sym}
+use mathlib.Core.List.{List, ◌++◌}
 use mathlib.Core.Bool.{true, false}
 use borrow.Author.Tests.{le-leb, lt-leb}
-use lib.ListN.{length}
-use lib.Seq.{sets}
+use native.Mathlib.Omega.{arith}
+use lib.ListN.{length, drop}
+use lib.Seq.{sets-eq}
 use Rattle.rules.specs.declared.Outcome.TheVariants.{Read, Refused}
 use Rattle.text.specs.declared.TextAnswer.{TextAnswer}
 use Rattle.name_words.specs.NameText.{known, name_text}
@@ -18,9 +19,11 @@ module _ (w : ℕ) (bytes : List ℕ) where
   too_few h = rw (lt-leb (length (name_text w)) (length bytes) h) (record { answer = refl; text = refl })
 
   pub enough : length (name_text w) ≤ length bytes →
-      NameAnswered w (room_question w (length bytes)) bytes (record { outcome = Read; position = 0; length = length (name_text w) }) (sets bytes 0 (name_text w))
+      NameAnswered w (room_question w (length bytes)) bytes (record { outcome = Read; position = 0; length = length (name_text w) }) (name_text w ++ drop (length (name_text w)) bytes)
   unfolding room_question
-  enough h = rw (le-leb (length (name_text w)) (length bytes) h) (record { answer = refl; text = refl })
+  enough h =
+      let e : 0 + length (name_text w) ≡ length (name_text w) = omega arith in
+      rw (le-leb (length (name_text w)) (length bytes) h) (record { answer = refl; text = sym (rw e at (sets-eq (name_text w) bytes 0 (omega arith))) })
 
   pub not_known : known w ≡ false → NameAnswered w (name_question w (length bytes)) bytes (record { outcome = Refused 25; position = 0; length = 0 }) bytes
   unfolding name_question

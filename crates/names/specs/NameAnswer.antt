@@ -1,8 +1,11 @@
 -- What writing the text of a name word into lent bytes answers.
-use Rattle.std.specs.Prelude.{ℕ, ◌≡◌, List, eqb, leb, length}
+use Rattle.std.specs.Prelude.{ℕ, ◌≡◌, List, Result, Ok, Err, eqb, leb, length}
 use Rattle.std.proofs.lemmas.List.Edits.{sets}
 use Rattle.rules.specs.declared.Outcome.TheVariants.{Read, Refused}
+use Rattle.rules.specs.declared.reason.Reason.{Reason}
 use Rattle.rules.specs.Rule.{pick}
+use Rattle.rules.specs.Reason.{end_of}
+use Rattle.rules.specs.Answer.{end_outcome}
 use Rattle.text.specs.declared.TextAnswer.{TextAnswer}
 use Rattle.name_words.specs.NameText.{known, name_text}
 
@@ -19,6 +22,11 @@ name_answer w number =
     pick (eqb number 0)
     (record { outcome = Read; position = 0; length = length (name_text w) })
     (record { outcome = Refused number; position = 0; length = 0 })
+
+-- the answer that a result gives
+abbrev pub text_answer : Result ℕ Reason → TextAnswer
+text_answer (Ok n) = record { outcome = Read; position = 0; length = n }
+text_answer (Err e) = record { outcome = end_outcome (end_of e); position = 0; length = 0 }
 
 -- What the call promises by that number: its answer, and every byte. The text stands at the beginning, if at all.
 pub record NameAnswered (w number : ℕ) (bytes : List ℕ) (r : TextAnswer) (after : List ℕ) : Type 0 where

@@ -1,4 +1,3 @@
-pub mod Letters
 pub mod Lengths
 pub mod Distinct
 pub mod Linked

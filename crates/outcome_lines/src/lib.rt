@@ -1,67 +1,37 @@
 // The line that `scene-fields` prints of a reading's outcome.
 #![tactic(auto)]
 
-ghost use Rattle.std.specs.Prelude.{◌+◌, ◌≤◌, length, ◌++◌};
-ghost use Rattle.text.specs.Text.{ascii, decimal, newline, Put, Lined};
+ghost use Rattle.std.specs.Prelude.{◌++◌};
+ghost use Rattle.text.specs.Text.{ascii, decimal, newline, Lined};
+ghost use Rattle.text.specs.Writer.{Fits, Wrote};
 ghost use Rattle.numbers.specs.Meaning.{meaning};
 ghost use Rattle.outcome_lines.specs.OutcomeLine.{outcome_line};
 
 use rules::{Answer, Outcome};
+use text::Writer;
 
-// Puts what a number means, which ends the line.
-fn put_meaning(out: &mut [u8], at: usize, number: u16) -> usize
-    requires { at + length (meaning number ++ newline) ≤ length out.old }
-    ensures { Put out.old at (meaning number ++ newline) result out.new }
+// Puts the line of a reading that was refused or stopped: its number, its bit position, and what the number means.
+fn put_ended(writer: &mut Writer<'_>, word: &[u8], number: u16, position: u64)
+    requires { Fits ((word.now ++ decimal number) ++ ((ascii " at " ++ decimal position) ++ (ascii ": " ++ (meaning number ++ newline)))) writer.old }
+    ensures { Wrote ((word.now ++ decimal number) ++ ((ascii " at " ++ decimal position) ++ (ascii ": " ++ (meaning number ++ newline)))) writer.old writer.new }
 {
-    let end = numbers::put_meaning(out, at, number);
-    text::put(out, end, b"\n")
-}
-
-// Puts it after a colon.
-fn put_words(out: &mut [u8], at: usize, number: u16) -> usize
-    requires { at + length (ascii ": " ++ (meaning number ++ newline)) ≤ length out.old }
-    ensures { Put out.old at (ascii ": " ++ (meaning number ++ newline)) result out.new }
-{
-    let next = text::put(out, at, b": ");
-    put_meaning(out, next, number)
-}
-
-// Puts a bit position, and what the number means.
-fn put_position(out: &mut [u8], at: usize, number: u16, position: u64) -> usize
-    requires { at + length ((ascii " at " ++ decimal position) ++ (ascii ": " ++ (meaning number ++ newline))) ≤ length out.old }
-    ensures { Put out.old at ((ascii " at " ++ decimal position) ++ (ascii ": " ++ (meaning number ++ newline))) result out.new }
-{
-    let next = text::put_number(out, at, b" at ", position);
-    put_words(out, next, number)
-}
-
-// Puts the line of a reading that was refused or stopped.
-fn put_ended(out: &mut [u8], at: usize, word: &[u8], number: u16, position: u64) -> usize
-    requires { at + length ((word.now ++ decimal number) ++ ((ascii " at " ++ decimal position) ++ (ascii ": " ++ (meaning number ++ newline)))) ≤ length out.old }
-    ensures { Put out.old at ((word.now ++ decimal number) ++ ((ascii " at " ++ decimal position) ++ (ascii ": " ++ (meaning number ++ newline)))) result out.new }
-{
-    let next = text::put_number(out, at, word, number as u64);
-    put_position(out, next, number, position)
+    writer.put_number(word, number as u64);
+    writer.put_number(b" at ", position);
+    writer.put(b": ");
+    numbers::put_meaning(writer, number);
+    writer.put_byte(b'\n');
 }
 
 // Puts the line of an outcome.
-fn put_outcome(out: &mut [u8], at: usize, answer: Answer) -> usize
-    requires { at + length (outcome_line answer) ≤ length out.old }
-    ensures { Put out.old at (outcome_line answer) result out.new }
+fn put_outcome(writer: &mut Writer<'_>, answer: Answer)
+    requires { Fits (outcome_line answer) writer.old }
+    ensures { Wrote (outcome_line answer) writer.old writer.new }
 {
     let position = answer.position as u64;
-    let outcome = answer.outcome;
-    match outcome {
-        Outcome::Read => text::put_two(
-            out,
-            at,
-            b"read ",
-            position,
-            b" fields ",
-            answer.fields as u64,
-        ),
-        Outcome::Refused(number) => put_ended(out, at, b"refused ", number, position),
-        Outcome::Stopped(number) => put_ended(out, at, b"stopped ", number, position),
+    match answer.outcome {
+        Outcome::Read => writer.put_two(b"read ", position, b" fields ", answer.fields as u64),
+        Outcome::Refused(number) => put_ended(writer, b"refused ", number, position),
+        Outcome::Stopped(number) => put_ended(writer, b"stopped ", number, position),
     }
 }
 
@@ -70,5 +40,7 @@ fn put_outcome(out: &mut [u8], at: usize, answer: Answer) -> usize
 pub fn outcome_line(answer: Answer, line: &mut [u8; text::LINE]) -> usize
     ensures { Lined line.old (outcome_line answer) result line.new }
 {
-    put_outcome(line, 0, answer)
+    let mut writer = Writer::new(line);
+    put_outcome(&mut writer, answer);
+    writer.length()
 }

@@ -15,9 +15,9 @@ use Rattle.rules.specs.declared.reason.Reason.{Reason}
 use Rattle.rules.specs.Rule.{Rule}
 use Rattle.rules.specs.Reason.{end_of}
 use Rattle.rules.specs.Reading.{Reading, reading}
-use Rattle.rules.specs.Answer.{end_outcome, input_of, Answered}
+use Rattle.rules.specs.Answer.{end_outcome, ended_as, input_of, Answered}
 use Rattle.parser.specs.declared.Parser.{Parser}
-use Rattle.parser.specs.Met.{Met, Gives}
+use Rattle.parser.specs.Met.{Met, Gives, giving}
 use Rattle.parser.specs.Begun.{Begun}
 
 -- the answer of a parser, with an outcome
@@ -52,3 +52,16 @@ module _ {A : Type 0} (r : Rule A) {bs : Bor (List ℕ)} {ws : MutBor (List ℕ)
     answered_ended m e =
         let g = begun_gives m in
         record { answer = e ∙ rw (g.result, g.position, g.fields, zero-add); value = rw g.result; words = g.written }
+
+  -- what the code leaves in what it was lent, whether it was read or not
+  pub answered_lent : {v : A} (x : std.Result (Unit {0}) Reason) {a : Answer} → Met r p (giving v x) q → a ≡ answer_at (ended_as x) q →
+      Answered (whole r bs.now rec ws.now) v rec ws.now a v q.words.now
+  answered_lent {v} (Ok u) m e = answered_read v m e
+  answered_lent {v} (Err z) m e = answered_ended v m e
+
+-- a reading that gives nothing
+module _ (r : Rule (Unit {0})) {bs : Bor (List ℕ)} {ws : MutBor (List ℕ)} {rec : Bool} {p q : Parser} (b : Begun bs ws rec 0 p) where
+  pub answered_alone : (x : std.Result (Unit {0}) Reason) {a : Answer} → Met r p x q → a ≡ answer_at (ended_as x) q →
+      Answered (whole r bs.now rec ws.now) tt rec ws.now a tt q.words.now
+  answered_alone (Ok u) m e = answered_read r b tt m e
+  answered_alone (Err z) m e = answered_ended r b tt m e

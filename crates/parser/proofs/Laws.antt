@@ -14,7 +14,9 @@ use Rattle.rules.specs.Derived.{remaining, demand}
 use Rattle.rules.proofs.Words.{recorded_append, recorded_none, recorded_length}
 use Rattle.rules.proofs.Bind.{bind}
 use Rattle.parser.specs.declared.Parser.{Parser}
+use Rattle.rules.specs.Reason.{end_of}
 use Rattle.parser.specs.Met.{Met, Gives, giving, reading_at}
+use Rattle.parser.specs.Begun.{own_question}
 
 module _ {A B : Type 0} {r : Rule A} (f : A → Rule B) {p q : Parser} where
   -- a rule that gave a value, and the rule after it
@@ -132,6 +134,16 @@ module _ {B : Type 0} (x : End) (f : Unit {0} → Rule B) {p : Parser} {b : std.
   pub demand_broken : ok ≡ false → Met {A = B} (ends x) p b q → Met (demand ok x >>= f) p b q
   unfolding demand ◌>>=◌
   demand_broken e y = rw e y
+
+-- an entry's own question
+module _ {B : Type 0} (f : Unit {0} → Rule B) {p : Parser} {b : std.Result B Reason} {q : Parser} {own : std.Result (Unit {0}) Reason} where
+  pub own_kept : {u : Unit {0}} → own ≡ Ok u → Met (f tt) p b q → Met (own_question own >>= f) p b q
+  unfolding own_question ◌>>=◌
+  own_kept e y = rw e y
+
+  pub own_broken : {e : Reason} → own ≡ Err e → Met {A = B} (ends (end_of e)) p b q → Met (own_question own >>= f) p b q
+  unfolding own_question ◌>>=◌
+  own_broken e y = rw e y
 
 pub ruleset readings =
     (first_unit, first, ended_first, first_position, first_end, first_remaining, last, last_as, if_true, if_false, if_true_by, if_false_by, eq-eqb, ne_eqb)

@@ -42,14 +42,24 @@ pub record Made (p q : Parser) (vs : List ℕ) : Type 0 where
   pub written : q.words.now ≡ vs
 
 module _ {p : Parser} where
-  -- a rule that ends here
-  pub ends_here : {A : Type 0} {r : Rule A} {e : Reason} → reading_at p r ≡ ended_at (end_of e) p.position p.end → Met r p (Err e) p
-  ends_here x = record {
-    bytes = refl;
-    lent = refl;
-    recording = refl;
-    gives = rw x (record { result = refl; position = refl; end = refl; fields = sym (add-zero _); written = sym (recorded_none p.recording p.words.now _) });
+  -- a rule that ends where the parser stands
+  ends_at : {A : Type 0} {r : Rule A} {e : Reason} {q : Parser} → Moved p q p.position p.end → reading_at p r ≡ ended_at (end_of e) p.position p.end → Met r p (Err e) q
+  ends_at m x = record {
+    bytes = m.bytes;
+    lent = rw m.words;
+    recording = m.recording;
+    gives = rw x
+        (record {
+          result = refl;
+          position = m.position;
+          end = m.end;
+          fields = m.fields ∙ sym (add-zero _);
+          written = rw m.words (sym (recorded_none p.recording p.words.now _));
+        });
   }
+
+  pub ends_here : {A : Type 0} {r : Rule A} {e : Reason} → reading_at p r ≡ ended_at (end_of e) p.position p.end → Met r p (Err e) p
+  ends_here x = ends_at (record { bytes = refl; words = refl; recording = refl; fields = refl; position = refl; end = refl }) x
 
   pub ends_now : {A : Type 0} {z : End} {e : Reason} → end_of e ≡ z → Met {A = A} (ends z) p (Err e) p
   unfolding reading
@@ -117,9 +127,9 @@ module _ (name start : ℕ) (v : FieldValue) {p : Parser} where
   unfolding field reading
   field_many l = ends_here (rw (le-ltb _ _ l))
 
-  pub field_full : p.fields < 16384 → p.recording ≡ true → length p.words.now < 5 * p.fields + 5 → Met (field name start v) p (Err NoRoom) p
+  pub field_full : p.fields < 16384 → p.recording ≡ true → length p.words.now < 5 * p.fields + 5 → {q : Parser} → Moved p q p.position p.end → Met (field name start v) p (Err NoRoom) q
   unfolding field reading
-  field_full l b m = ends_here (rw (lt-ltb _ _ l, b, lt-leb _ _ m))
+  field_full l b m e = ends_at e (rw (lt-ltb _ _ l, b, lt-leb _ _ m))
 
   field_made : {q : Parser} → p.fields < 16384 → has_room (record { bytes = p.bytes.now; recording = p.recording; room = length p.words.now }) p.fields ≡ true →
       Made p q (recorded p.recording p.words.now p.fields (field_to name start v p.position ∷ [])) → Met (field name start v) p (Ok tt) q

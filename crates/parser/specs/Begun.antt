@@ -1,9 +1,10 @@
 -- A parser that has read nothing yet, and what an entry asks of its own.
-use Rattle.std.specs.Prelude.{ℕ, ◌≡◌, Bool, List, Result, Ok, Err}
+use Rattle.std.specs.Prelude.{ℕ, ◌*◌, ◌≡◌, Bool, List, Result, Ok, Err, leb}
 use Rattle.std.specs.Borrow.{Bor, MutBor}
 use Rattle.rules.specs.declared.reason.Reason.{Reason}
-use Rattle.rules.specs.Rule.{refused}
-use Rattle.rules.specs.Reason.{number_of, end_of}
+use Rattle.rules.specs.Rule.{Rule, done, ends, ◌>>◌, refused, set_end, skip}
+use Rattle.rules.specs.Derived.{demand}
+use Rattle.rules.specs.Reason.{end_of}
 use Rattle.parser.specs.declared.Parser.{Parser}
 
 pub record Begun (bs : Bor (List ℕ)) (ws : MutBor (List ℕ)) (rec : Bool) (n : ℕ) (p : Parser) : Type 0 where
@@ -15,12 +16,15 @@ pub record Begun (bs : Bor (List ℕ)) (ws : MutBor (List ℕ)) (rec : Bool) (n 
   pub fields : p.fields ≡ n
   pub recording : p.recording ≡ rec
 
--- the number of an entry's own question that is not met, or 0
-abbrev pub asked : Result (Unit {0}) Reason → ℕ
-asked (Ok a) = 0
-asked (Err e) = number_of e
+-- an own question, once the code has asked it
+unfoldable pub own_question : Result (Unit {0}) Reason → Rule (Unit {0})
+own_question (Ok a) = done tt
+own_question (Err e) = ends (end_of e)
 
--- an own question refuses, and stops nothing
-abbrev pub IsRefusal : {A : Type 0} → Result A Reason → Type 0
-IsRefusal (Ok a) = Unit {0}
-IsRefusal (Err e) = end_of e ≡ refused (number_of e)
+-- `entry` with such a question: it is `entry` of the question's number, if the question refuses
+unfoldable pub entered : ℕ → Result (Unit {0}) Reason → ℕ → Rule (Unit {0})
+entered size own offset = do
+  demand (leb size 8388608) (refused 1)
+  own_question own
+  set_end (8 * size)
+  skip offset

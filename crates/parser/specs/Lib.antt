@@ -1,3 +1,4 @@
 pub mod Met
+pub mod Each
 pub mod Widths
 pub mod Begun

@@ -1,5 +1,6 @@
 // The Rust's `Parser`, and the `BitReader` in it: the bytes, the window that is read of them, the fields counted, and the lent
-// words that they are written into. Each method is the Rust's of that name, and promises its rule.
+// words that they are written into. Each method is the Rust's of that name and promises its rule, but for `each`, `if_flag`
+// and `unless_flag`, which are handed what is read.
 #![tactic(auto)]
 
 ghost use Rattle.std.specs.Prelude.{◌≡◌, ◌≤◌, ◌<◌, ◌+◌, ◌*◌, ◌^◌, IfOk, ◌&&◌, leb, length};
@@ -33,7 +34,6 @@ pub struct Parser<'a> {
     recording: bool,
     ghost position_in: { position ≤ end },
     ghost end_in: { end ≤ 67108864 },
-    ghost fields_in: { fields ≤ 16384 },
 }
 
 // A field in the five words from `k`.
@@ -66,9 +66,14 @@ fn fits(n: u64, least: u64, left: u64) -> bool
 
 impl<'a> Parser<'a> {
     ghost use Rattle.rules.specs.Rule.{bits, skip, set_end, field};
-    ghost use Rattle.rules.specs.Derived.{take, flag, parts, escaped, passive_bits, passive_values, label_bytes, label, count, drc_count, entry};
+    ghost use Rattle.rules.specs.Derived.{take, flag, parts, escaped, passive_bits, passive_values, label_bytes, label, count, drc_count};
     ghost use Rattle.parser.specs.Met.{Met};
-    ghost use Rattle.parser.specs.Begun.{Begun, IsRefusal, asked};
+    ghost use Rattle.parser.specs.Begun.{Begun, entered};
+    ghost use Rattle.rules.specs.Answer.{ended_as};
+    ghost use Rattle.std.specs.Prelude.{ℕ};
+    ghost use Rattle.rules.specs.Rule.{Rule};
+    ghost use Rattle.rules.specs.Derived.{repeat};
+    ghost use Rattle.parser.specs.Each.{EachMet, CallMet, optional, unless};
 
     // The greatest number of fields counted.
     pub const FIELDS: usize = 16384;
@@ -90,7 +95,6 @@ impl<'a> Parser<'a> {
 
     // A reading of nothing yet, with `fields` counted before it.
     pub fn new(bytes: &'a [u8], words: &'a mut [u64], recording: bool, fields: usize) -> Parser<'a>
-        requires { fields ≤ 16384 }
         ensures { Begun bytes.entry words.entry recording fields result }
     {
         Parser {
@@ -116,12 +120,12 @@ impl<'a> Parser<'a> {
         self.end
     }
 
-    // What the reading has come to.
-    pub fn answer(&self, outcome: Outcome) -> Answer
-        ensures { result ≡ record { outcome = outcome; position = self.now.position; fields = self.now.fields } }
+    // What a reading that ended so has come to.
+    pub fn answer(&self, ended: Result<(), Reason>) -> Answer
+        ensures { result ≡ record { outcome = ended_as ended; position = self.now.position; fields = self.now.fields } }
     {
         Answer {
-            outcome,
+            outcome: Outcome::from(ended),
             position: self.position,
             fields: self.fields,
         }
@@ -176,25 +180,23 @@ impl<'a> Parser<'a> {
         if Self::FIELDS <= n {
             return Err(Reason::TooManyFields);
         }
-        if !self.recording {
-            self.fields = n + 1;
-            return Ok(());
+        if self.recording {
+            let k = 5 * n;
+            if self.words.len() < k + 5 {
+                return Err(Reason::NoRoom);
+            }
+            let bit_length = self.position - start;
+            put(
+                self.words,
+                k,
+                Field {
+                    bit_offset: start,
+                    bit_length,
+                    value,
+                    name,
+                },
+            );
         }
-        let k = 5 * n;
-        if self.words.len() < k + 5 {
-            return Err(Reason::NoRoom);
-        }
-        let bit_length = self.position - start;
-        put(
-            self.words,
-            k,
-            Field {
-                bit_offset: start,
-                bit_length,
-                value,
-                name,
-            },
-        );
         self.fields = n + 1;
         Ok(())
     }
@@ -299,6 +301,52 @@ impl<'a> Parser<'a> {
         self.record(name, start, FieldValue::Bits(width as u64))
     }
 
+    // `f` at each number below `n`, in order, until one ends the reading.
+    pub fn each<F: Fn(&mut Parser<'_>, u64) -> Result<(), Reason>>(
+        &mut self,
+        n: u64,
+        f: F,
+    ) -> Result<(), Reason>
+        requires { (i : ℕ) → i < n → (p : _) → F.pre f p i }
+        ensures { (rule : ℕ → Rule (Unit {0})) → EachMet (F.post f) rule n → Met (repeat rule n) self.old result self.new }
+    {
+        for i in 0..n {
+            tri!(f(self, i));
+        }
+        Ok(())
+    }
+
+    // `f`, if the flag is set.
+    pub fn if_flag<F: FnOnce(&mut Parser<'_>) -> Result<(), Reason>>(
+        &mut self,
+        name: u64,
+        f: F,
+    ) -> Result<(), Reason>
+        requires { (p : _) → F.pre f p }
+        ensures { (rule : Rule (Unit {0})) → CallMet (F.post f) rule → Met (optional name rule) self.old result self.new }
+    {
+        if tri!(self.flag(name)) {
+            return f(self);
+        }
+        Ok(())
+    }
+
+    // `f`, unless the flag is set.
+    pub fn unless_flag<F: FnOnce(&mut Parser<'_>) -> Result<(), Reason>>(
+        &mut self,
+        name: u64,
+        f: F,
+    ) -> Result<(), Reason>
+        requires { (p : _) → F.pre f p }
+        ensures { (rule : Rule (Unit {0})) → CallMet (F.post f) rule → Met (unless name rule) self.old result self.new }
+    {
+        let absent = tri!(self.flag(name));
+        if absent {
+            return Ok(());
+        }
+        f(self)
+    }
+
     // The bytes of a label up to its zero byte, at most 4,097: how many there are with it.
     fn label_bytes(&mut self) -> Result<u64, Reason>
         ensures { Met (label_bytes 4097 0) self.old result self.new }
@@ -323,8 +371,7 @@ impl<'a> Parser<'a> {
     // What every entry asks: 1; its own questions, of which `own` says the first that is not met; and 3. The reading is then at
     // bit `offset` of the input.
     pub fn entry(&mut self, own: Result<(), Reason>, offset: usize) -> Result<(), Reason>
-        requires { IsRefusal own }
-        ensures { Met (entry (length self.old.bytes.now) (asked own) offset) self.old result self.new }
+        ensures { Met (entered (length self.old.bytes.now) own offset) self.old result self.new }
     {
         let n = self.bytes.len();
         if Self::BYTES < n {

@@ -6,6 +6,7 @@ use mathlib.Core.Bool.{true}
 use native.Mathlib.Omega.{arith}
 use borrow.Author.Tests.{lt-ltb, ne_eqb}
 use lib.ListN.{length, get_or}
+use Rattle.std.specs.Prelude.{Ok}
 use Rattle.position.specs.declared.PositionSyntax.{PositionSyntax}
 use Rattle.book.specs.Step.{book_told, book_state}
 use Rattle.book.specs.Book.{Given, is_accepted, book_scene, book_reading, scene_step, update_step, book_first, book_answers, book_shapes}
@@ -13,7 +14,6 @@ use Rattle.book.proofs.Book.{scene_told, update_told, scene_enough, update_enoug
 use Rattle.show_header.specs.Header.{part_count, part_of, file_question}
 use Rattle.show_parts.specs.Parts.{packet, packets}
 use Rattle.show_header.proofs.Sound.{sound_if, question_met}
-use Rattle.part.specs.declared.PartAnswer.TheVariants.{Ended}
 use Rattle.part.specs.Part.{Listed, shapes_before, part_from, update_listed, sound_listed, part_listed}
 
 -- the j-th answer to the parts from i on: that part's, on the shapes that those before it left
@@ -28,12 +28,12 @@ answer_at file (suc n) i (suc j) s d h =
 
 -- what the show reads of a file that is not refused: part 0, and part k if the scene was read
 module _ (file : List ℕ) (k : ℕ) (met : file_question file ≡ 0) where
-  scene_off : k ≡ 0 → (part_listed file k (packet file k)).answer ≡ Ended (scene_step (packet file 0) []).told.answer
+  scene_off : k ≡ 0 → (part_listed file k (packet file k)).answer ≡ Ok (scene_step (packet file 0) []).told.answer
   unfolding part_listed sound_listed
   scene_off z = rw (z, scene_told (packet file 0) [], met, lt-ltb 0 (part_count file) (sound_if file (question_met file met)).some)
 
   update_off : is_accepted (scene_step (packet file 0) []).told ≡ true → 1 ≤ k → k < part_count file →
-      (part_listed file k (packet file k)).answer ≡ Ended (update_step (packet file k) (shapes_before file k)).told.answer
+      (part_listed file k (packet file k)).answer ≡ Ok (update_step (packet file k) (shapes_before file k)).told.answer
   unfolding part_listed sound_listed update_listed
   update_off read some h = let z : k ≡ 0 → ⊥ = λ e. omega arith in
       rw (met, lt-ltb k (part_count file) h, ne_eqb k 0 z, read, update_told (packet file k) (shapes_before file k))
@@ -54,14 +54,14 @@ module _ (file ws : List ℕ) (k : ℕ) (room : 81920 ≤ length ws) where
   -- So the answer is the one in the line of part 0, or in the line of part k: of the answers that are printed after the
   -- scene's, the one of index k - 1.
   module _ (met : file_question file ≡ 0) where
-    pub shown_scene : k ≡ 0 → (part_listed file k (part_from file k 0 ws)).answer ≡ Ended (scene_step (packet file 0) []).told.answer
+    pub shown_scene : k ≡ 0 → (part_listed file k (part_from file k 0 ws)).answer ≡ Ok (scene_step (packet file 0) []).told.answer
     shown_scene z = ap (λ (l : Listed). l.answer) listed_off ∙ scene_off file k met z
 
     pub shown_update : is_accepted (scene_step (packet file 0) []).told ≡ true → 1 ≤ k → k < part_count file → (d : Given) →
         (part_listed file k (part_from file k 0 ws)).answer
-        ≡ Ended (get_or (book_answers (packets file (part_count file - 1) 1) (book_first (packet file 0))) (k - 1) d).answer
+        ≡ Ok (get_or (book_answers (packets file (part_count file - 1) 1) (book_first (packet file 0))) (k - 1) d).answer
     unfolding shapes_before
     shown_update read some h d =
         let e : 1 + (k - 1) ≡ k = omega arith in
         let printed = rw e at (answer_at file (part_count file - 1) 1 (k - 1) (book_first (packet file 0)) d (omega arith)) in
-        ap (λ (l : Listed). l.answer) listed_off ∙ update_off file k met read some h ∙ ap (λ (g : Given). Ended g.answer) (sym printed)
+        ap (λ (l : Listed). l.answer) listed_off ∙ update_off file k met read some h ∙ ap (λ (g : Given). Ok g.answer) (sym printed)

@@ -1,5 +1,6 @@
 -- What `read_part` answers: one part of a show file, with its fields in the words that are lent.
-use Rattle.std.specs.Prelude.{ℕ, ◌-◌, ◌≡◌, List, [], true, eqb, ltb}
+use Rattle.std.specs.Prelude.{ℕ, ◌-◌, ◌≡◌, List, [], true, Result, Ok, Err, eqb, ltb}
+use Rattle.rules.specs.declared.Answer.{Answer}
 use Rattle.rules.specs.declared.Field.{Field}
 use Rattle.rules.specs.Rule.{pick, refused}
 use Rattle.rules.specs.Reading.{Reading, ended_at}
@@ -9,20 +10,20 @@ use Rattle.position.specs.declared.PositionSyntax.{PositionSyntax}
 use Rattle.book.specs.Book.{Packet, packet_of, is_accepted, book_scene, book_reading, scene_step, book_first, book_shapes}
 use Rattle.show_header.specs.Header.{part_count, part_of, file_question}
 use Rattle.show_parts.specs.Parts.{packet, packets}
-use Rattle.part.specs.declared.PartAnswer.{PartAnswer}
-use Rattle.part.specs.declared.PartAnswer.TheVariants.{Ended, NoPart, NoScene}
+use Rattle.part.specs.declared.NotRead.{NotRead}
+use Rattle.part.specs.declared.NotRead.TheVariants.{NoPart, NoScene}
 
 -- an answer, and the fields that go with it
 pub record Listed : Type 0 where
-  pub answer : PartAnswer
+  pub answer : Result Answer NotRead
   pub fields : List Field
 
 -- of a reading, and of a part that is not read
 abbrev pub listed : Reading (List PositionSyntax) → Listed
-listed x = record { answer = Ended (answer_of x); fields = x.fields }
+listed x = record { answer = Ok (answer_of x); fields = x.fields }
 
-abbrev pub unlisted : PartAnswer → Listed
-unlisted a = record { answer = a; fields = [] }
+abbrev pub unlisted : NotRead → Listed
+unlisted a = record { answer = Err a; fields = [] }
 
 -- the shapes that the parts before part k leave, each of them read as the show reads it
 unfoldable pub shapes_before : List ℕ → ℕ → List PositionSyntax
@@ -48,6 +49,6 @@ unfoldable pub part_listed : List ℕ → ℕ → Packet → Listed
 part_listed file k p = pick (eqb (file_question file) 0) (sound_listed file k p) (listed (ended_at (refused (file_question file)) 0 0))
 
 -- What the call promises: its answer, and every word. The words of the fields stand at the beginning.
-pub record PartAnswered (x : Listed) (ws : List ℕ) (r : PartAnswer) (vs : List ℕ) : Type 0 where
+pub record PartAnswered (x : Listed) (ws : List ℕ) (r : Result Answer NotRead) (vs : List ℕ) : Type 0 where
   pub answer : r ≡ x.answer
   pub words : vs ≡ recorded true ws 0 x.fields

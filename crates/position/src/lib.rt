@@ -1,14 +1,14 @@
 // The passive syntax of one scene position: passive.rs, `position`. Coordinates stay encoded.
 #![tactic(auto)]
 
-ghost use Rattle.std.specs.Prelude.{◌≡◌, ◌≤◌, ◌<◌, ◌^◌, IfOk};
+ghost use Rattle.std.specs.Prelude.{◌≡◌, ◌≤◌, IfOk};
 ghost use Rattle.parser.specs.Met.{Met};
 ghost use Rattle.position.specs.Shape.{default, with_dynamics, with_precisions, with_parent, with_polar};
 ghost use Rattle.position.specs.Position.{precision_of, dynamics, precisions, header, changed, new_parent, parent, range, flag_unless, coordinates, coordinates_if_present, rotation_values, rotation, before_range, after_range, position};
 ghost use Rattle.position.specs.Formed.{Shaped, is_shaped, Remade};
 
 use parser::{Parser, tri};
-use rules::{Field, Reason, leaf};
+use rules::{Field, Names, Reason, leaf};
 
 // The encoding shape of one scene position, which crosses to C as it is.
 #[repr(C)]
@@ -93,42 +93,39 @@ fn precision(encoded: u64) -> usize
 // The two flags of a full position.
 fn dynamics(
     parser: &mut Parser<'_>,
-    p: u64,
+    p: Names<38>,
     shape: PositionSyntax,
 ) -> Result<PositionSyntax, Reason>
-    requires { p < 2 ^ 38 }
-    ensures { Met (dynamics p shape) parser.old result parser.new }
+    ensures { Met (dynamics p.word shape) parser.old result parser.new }
 {
-    let parent = tri!(parser.flag(p + leaf::PARENT_DYNAMIC));
-    let range = tri!(parser.flag(p + leaf::RANGE_DYNAMIC));
+    let parent = tri!(parser.flag(p.word + leaf::PARENT_DYNAMIC));
+    let range = tri!(parser.flag(p.word + leaf::RANGE_DYNAMIC));
     Ok(shape.with_dynamics(parent, range))
 }
 
 // The two precisions of a full position.
 fn precisions(
     parser: &mut Parser<'_>,
-    p: u64,
+    p: Names<38>,
     shape: PositionSyntax,
 ) -> Result<PositionSyntax, Reason>
-    requires { p < 2 ^ 38 }
-    ensures met { Met (precisions p shape) parser.old result parser.new }
+    ensures met { Met (precisions p.word shape) parser.old result parser.new }
     ensures shaped { IfOk result Shaped }
 {
-    let position = tri!(parser.take(p + leaf::POSITION_PRECISION_ENCODED, 4));
-    let rotation = tri!(parser.take(p + leaf::ROTATION_PRECISION_ENCODED, 4));
+    let position = tri!(parser.take(p.word + leaf::POSITION_PRECISION_ENCODED, 4));
+    let rotation = tri!(parser.take(p.word + leaf::ROTATION_PRECISION_ENCODED, 4));
     Ok(shape.with_precisions(position, rotation))
 }
 
 // What only a full position has.
 fn header(
     parser: &mut Parser<'_>,
-    p: u64,
+    p: Names<38>,
     shape: PositionSyntax,
     full: bool,
 ) -> Result<PositionSyntax, Reason>
-    requires shaped { Shaped shape }
-    requires p_bound { p < 2 ^ 38 }
-    ensures met { Met (header p shape full) parser.old result parser.new }
+    requires { Shaped shape }
+    ensures met { Met (header p.word shape full) parser.old result parser.new }
     ensures shaped { IfOk result Shaped }
 {
     if full {
@@ -154,35 +151,38 @@ fn changed(parser: &mut Parser<'_>, name: u64, dynamic: bool, full: bool) -> Res
 // The parent: none if it is absolute, or an index, of which 0 is none too.
 fn new_parent(
     parser: &mut Parser<'_>,
-    p: u64,
+    p: Names<38>,
     shape: PositionSyntax,
 ) -> Result<PositionSyntax, Reason>
-    requires shaped { Shaped shape }
-    requires p_bound { p < 2 ^ 38 }
-    ensures met { Met (new_parent p shape) parser.old result parser.new }
+    requires { Shaped shape }
+    ensures met { Met (new_parent p.word shape) parser.old result parser.new }
     ensures shaped { IfOk result Shaped }
 {
-    let absolute = tri!(parser.flag(p + leaf::ABSOLUTE_PARENT));
+    let absolute = tri!(parser.flag(p.word + leaf::ABSOLUTE_PARENT));
     if absolute {
         return Ok(shape.with_parent(0));
     }
-    let index = tri!(parser.take(p + leaf::PARENT_INDEX, 6));
+    let index = tri!(parser.take(p.word + leaf::PARENT_INDEX, 6));
     Ok(shape.with_parent(index as usize))
 }
 
 // The parent, if it is there.
 fn parent(
     parser: &mut Parser<'_>,
-    p: u64,
+    p: Names<38>,
     shape: PositionSyntax,
     full: bool,
 ) -> Result<PositionSyntax, Reason>
-    requires shaped { Shaped shape }
-    requires p_bound { p < 2 ^ 38 }
-    ensures met { Met (parent p shape full) parser.old result parser.new }
+    requires { Shaped shape }
+    ensures met { Met (parent p.word shape full) parser.old result parser.new }
     ensures shaped { IfOk result Shaped }
 {
-    let present = tri!(changed(parser, p + leaf::PARENT_UPDATE, shape.parent_dynamic, full));
+    let present = tri!(changed(
+        parser,
+        p.word + leaf::PARENT_UPDATE,
+        shape.parent_dynamic,
+        full
+    ));
     if present {
         return new_parent(parser, p, shape);
     }
@@ -190,13 +190,12 @@ fn parent(
 }
 
 // The range.
-fn range(parser: &mut Parser<'_>, p: u64, dynamic: bool, full: bool) -> Result<(), Reason>
-    requires { p < 2 ^ 38 }
-    ensures { Met (range p dynamic full) parser.old result parser.new }
+fn range(parser: &mut Parser<'_>, p: Names<38>, dynamic: bool, full: bool) -> Result<(), Reason>
+    ensures { Met (range p.word dynamic full) parser.old result parser.new }
 {
-    let present = tri!(changed(parser, p + leaf::RANGE_UPDATE, dynamic, full));
+    let present = tri!(changed(parser, p.word + leaf::RANGE_UPDATE, dynamic, full));
     if present {
-        tri!(parser.take(p + leaf::RANGE_ENCODED, 4));
+        tri!(parser.take(p.word + leaf::RANGE_ENCODED, 4));
     }
     Ok(())
 }
@@ -214,17 +213,16 @@ fn flag_unless(parser: &mut Parser<'_>, name: u64, known: bool, value: bool) -> 
 // Where a position is present: whether it is a delta, whether it is polar, which a delta keeps, and its coordinates.
 fn coordinates(
     parser: &mut Parser<'_>,
-    p: u64,
+    p: Names<38>,
     shape: PositionSyntax,
     full: bool,
 ) -> Result<PositionSyntax, Reason>
-    requires shaped { Shaped shape }
-    requires p_bound { p < 2 ^ 38 }
-    ensures met { Met (coordinates p shape full) parser.old result parser.new }
+    requires { Shaped shape }
+    ensures met { Met (coordinates p.word shape full) parser.old result parser.new }
     ensures shaped { IfOk result Shaped }
 {
-    let delta = tri!(flag_unless(parser, p + leaf::POSITION_DELTA, full, false));
-    let polar = tri!(flag_unless(parser, p + leaf::POLAR, delta, shape.polar));
+    let delta = tri!(flag_unless(parser, p.word + leaf::POSITION_DELTA, full, false));
+    let polar = tri!(flag_unless(parser, p.word + leaf::POLAR, delta, shape.polar));
     tri!(coordinates::coordinate_values(parser, p, polar, shape.position_precision, delta));
     Ok(shape.with_polar(polar))
 }
@@ -232,16 +230,15 @@ fn coordinates(
 // The coordinates, if they are there; the shape may become polar or not by them.
 fn coordinates_if_present(
     parser: &mut Parser<'_>,
-    p: u64,
+    p: Names<38>,
     shape: PositionSyntax,
     full: bool,
 ) -> Result<PositionSyntax, Reason>
-    requires shaped { Shaped shape }
-    requires p_bound { p < 2 ^ 38 }
-    ensures met { Met (coordinates_if_present p shape full) parser.old result parser.new }
+    requires { Shaped shape }
+    ensures met { Met (coordinates_if_present p.word shape full) parser.old result parser.new }
     ensures shaped { IfOk result Shaped }
 {
-    let present = tri!(parser.flag(p + leaf::POSITION_PRESENT));
+    let present = tri!(parser.flag(p.word + leaf::POSITION_PRESENT));
     if present {
         return coordinates(parser, p, shape, full);
     }
@@ -251,27 +248,30 @@ fn coordinates_if_present(
 // The four numbers of a rotation.
 fn rotation_values(
     parser: &mut Parser<'_>,
-    p: u64,
+    p: Names<38>,
     precision: usize,
     delta: bool,
 ) -> Result<(), Reason>
-    requires precision_bound { precision ≤ 24 }
-    requires p_bound { p < 2 ^ 38 }
-    ensures { Met (rotation_values p precision delta) parser.old result parser.new }
+    requires { precision ≤ 24 }
+    ensures { Met (rotation_values p.word precision delta) parser.old result parser.new }
 {
     let widths = [coordinates::width(8, precision, delta); 4];
-    parser.passive_values(p + leaf::ROTATION_ENCODED, Field::THIRD, &widths)
+    parser.passive_values(p.word + leaf::ROTATION_ENCODED, Field::THIRD, &widths)
 }
 
 // The rotation, if it is there.
-fn rotation(parser: &mut Parser<'_>, p: u64, precision: usize, full: bool) -> Result<(), Reason>
-    requires precision_bound { precision ≤ 24 }
-    requires p_bound { p < 2 ^ 38 }
-    ensures { Met (rotation p precision full) parser.old result parser.new }
+fn rotation(
+    parser: &mut Parser<'_>,
+    p: Names<38>,
+    precision: usize,
+    full: bool,
+) -> Result<(), Reason>
+    requires { precision ≤ 24 }
+    ensures { Met (rotation p.word precision full) parser.old result parser.new }
 {
-    let present = tri!(parser.flag(p + leaf::ROTATION_PRESENT));
+    let present = tri!(parser.flag(p.word + leaf::ROTATION_PRESENT));
     if present {
-        let delta = tri!(flag_unless(parser, p + leaf::ROTATION_DELTA, full, false));
+        let delta = tri!(flag_unless(parser, p.word + leaf::ROTATION_DELTA, full, false));
         return rotation_values(parser, p, precision, delta);
     }
     Ok(())
@@ -280,13 +280,12 @@ fn rotation(parser: &mut Parser<'_>, p: u64, precision: usize, full: bool) -> Re
 // The shape as far as the range.
 fn before_range(
     parser: &mut Parser<'_>,
-    p: u64,
+    p: Names<38>,
     shape: PositionSyntax,
     full: bool,
 ) -> Result<PositionSyntax, Reason>
-    requires shaped { Shaped shape }
-    requires p_bound { p < 2 ^ 38 }
-    ensures met { Met (before_range p shape full) parser.old result parser.new }
+    requires { Shaped shape }
+    ensures met { Met (before_range p.word shape full) parser.old result parser.new }
     ensures shaped { IfOk result Shaped }
 {
     let shape = tri!(header(parser, p, shape, full));
@@ -296,13 +295,12 @@ fn before_range(
 // What follows the range.
 fn after_range(
     parser: &mut Parser<'_>,
-    p: u64,
+    p: Names<38>,
     shape: PositionSyntax,
     full: bool,
 ) -> Result<PositionSyntax, Reason>
-    requires shaped { Shaped shape }
-    requires p_bound { p < 2 ^ 38 }
-    ensures met { Met (after_range p shape full) parser.old result parser.new }
+    requires { Shaped shape }
+    ensures met { Met (after_range p.word shape full) parser.old result parser.new }
     ensures shaped { IfOk result Shaped }
 {
     let shape = tri!(coordinates_if_present(parser, p, shape, full));
@@ -314,13 +312,12 @@ fn after_range(
 // One position, full or of an update, whose names begin with the word `p`.
 pub fn position(
     parser: &mut Parser<'_>,
-    p: u64,
+    p: Names<38>,
     shape: PositionSyntax,
     full: bool,
 ) -> Result<PositionSyntax, Reason>
-    requires shaped { Shaped shape }
-    requires p_bound { p < 2 ^ 38 }
-    ensures met { Met (position p shape full) parser.old result parser.new }
+    requires { Shaped shape }
+    ensures met { Met (position p.word shape full) parser.old result parser.new }
     ensures shaped { IfOk result Shaped }
 {
     let shape = tri!(before_range(parser, p, shape, full));

@@ -6,13 +6,13 @@ ghost use Rattle.std.specs.Prelude.{◌≡◌, length};
 ghost use Rattle.rules.specs.Block.{positions};
 ghost use Rattle.rules.specs.Answer.{input_of, entry_then, Answered};
 ghost use Rattle.parser.specs.Met.{Met};
-ghost use Rattle.parser.specs.Begun.{IsRefusal, asked};
+ghost use Rattle.rules.specs.Reason.{IsRefusal, asked};
 ghost use Rattle.position.specs.Position.{position};
 ghost use Rattle.position_alone.specs.Entry.{shape_question, position_reading};
 
 use parser::{Parser, tri};
 use position::PositionSyntax;
-use rules::{Answer, Outcome, Reason, block};
+use rules::{Answer, Names, Reason, block};
 
 // What a position reading called alone answers: the shape is as it came unless it was read.
 #[derive(Clone, Copy)]
@@ -43,7 +43,10 @@ fn entered(
     ensures { Met (entry_then (length parser.old.bytes.now) (shape_question shape) offset (position (positions 0) shape full)) parser.old result parser.new }
 {
     tri!(parser.entry(shape_question(shape), offset));
-    position::position(parser, block::POSITIONS, shape, full)
+    let first = Names {
+        word: block::POSITIONS,
+    };
+    position::position(parser, first, shape, full)
 }
 
 // A position from the bit `offset` on, full or of an update.
@@ -60,11 +63,11 @@ pub fn read_position(
     let mut parser = Parser::new(bytes, words, recording, 0);
     match entered(&mut parser, offset, shape, full) {
         Ok(next) => PositionAnswer {
-            answer: parser.answer(Outcome::Read),
+            answer: parser.answer(Ok(())),
             shape: next,
         },
         Err(reason) => PositionAnswer {
-            answer: parser.answer(Outcome::from(reason)),
+            answer: parser.answer(Err(reason)),
             shape,
         },
     }

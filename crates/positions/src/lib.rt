@@ -3,7 +3,7 @@
 // are one loop here, over the shapes that come in: those of a scene are the default.
 #![tactic(auto)]
 
-ghost use Rattle.std.specs.Prelude.{ℕ, ◌≤◌, ◌<◌, ◌^◌, length, get_or};
+ghost use Rattle.std.specs.Prelude.{ℕ, ◌≤◌, ◌<◌, length, get_or};
 ghost use Rattle.parser.specs.Met.{Met, giving};
 ghost use Rattle.position.specs.Shape.{default};
 ghost use Rattle.position.specs.Formed.{Shaped};
@@ -11,19 +11,18 @@ ghost use Rattle.positions.specs.Positions.{updated_position, position_at, posit
 
 use parser::{Parser, tri};
 use position::PositionSyntax;
-use rules::{Field, Reason, block, leaf};
+use rules::{Field, Names, Reason, block, leaf};
 
 // A position of an update: its flag, and the position if it is set.
 fn updated_position(
     parser: &mut Parser<'_>,
-    p: u64,
+    p: Names<38>,
     shape: PositionSyntax,
 ) -> Result<PositionSyntax, Reason>
-    requires shaped { Shaped shape }
-    requires p_bound { p < 2 ^ 38 }
-    ensures { Met (updated_position p shape) parser.old result parser.new }
+    requires { Shaped shape }
+    ensures { Met (updated_position p.word shape) parser.old result parser.new }
 {
-    let updated = tri!(parser.flag(p + leaf::UPDATED));
+    let updated = tri!(parser.flag(p.word + leaf::UPDATED));
     if updated {
         return position::position(parser, p, shape, false);
     }
@@ -41,7 +40,9 @@ fn position_at(
     requires i_bound { i < 63 }
     ensures { Met (position_at full i shape) parser.old result parser.new }
 {
-    let p = block::POSITIONS + Field::FIRST * i;
+    let p = Names {
+        word: block::POSITIONS + Field::FIRST * i,
+    };
     if full {
         return position::position(parser, p, shape, true);
     }
@@ -59,8 +60,8 @@ pub fn positions(
     requires by_index { (i : ℕ) → i < length shapes.old → Shaped (get_or shapes.old i default) }
     ensures { Met (positions full shapes.old) parser.old (giving shapes.new result) parser.new }
 {
-    for i in 0..shapes.len() {
-        shapes[i] = tri!(position_at(parser, i as u64, shapes[i], full));
+    for (i, shape) in shapes.iter_mut().enumerate() {
+        *shape = tri!(position_at(parser, i as u64, *shape, full));
     }
     Ok(())
 }

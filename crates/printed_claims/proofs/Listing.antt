@@ -7,6 +7,7 @@ use base.Logic.{SProp}
 use prog.Memory.{Memory}
 use prog.Routine.{Env}
 use borrow.Fn.World.{World}
+use Rattle.std.specs.Prelude.{Ok}
 use Rattle.rules.specs.declared.Answer.{Answer}
 use Rattle.rules.specs.Answer.{input_of, Answered}
 use Rattle.scene.specs.declared.SceneAnswer.{SceneAnswer}
@@ -14,7 +15,6 @@ use Rattle.scene.specs.Scene.{scene_reading, SceneAnswered}
 use Rattle.metadata.specs.Entry.{metadata_reading}
 use Rattle.text.proofs.Lines.{line_front}
 use Rattle.known_names.proofs.Explained as explained
-use Rattle.part.specs.declared.PartAnswer.TheVariants.{Ended}
 use Rattle.part.specs.Part.{PartAnswered}
 use Rattle.listing.specs.Listing.{listing}
 use Rattle.listings.specs.Printed.{lines, printed}
@@ -40,8 +40,8 @@ module _ (bs ws : List ℕ) (offset : ℕ) {rec : Bool} (on : rec ≡ true) {vs 
 
 module _ (w : World) (γ : Env) where
   -- a part that was read
-  ended : {p : Asked} {σ : Memory} {F : SProp w.𝓤} (run : PartRead w γ p σ F) {answer : Answer} → run.answer ≡ Ended answer →
-      PartAnswered (listed_of p) p.words.held (Ended answer) run.words
+  ended : {p : Asked} {σ : Memory} {F : SProp w.𝓤} (run : PartRead w γ p σ F) {answer : Answer} → run.answer ≡ Ok answer →
+      PartAnswered (listed_of p) p.words.held (Ok answer) run.words
   ended run e = rw e at run.answered
 
   line_of_lem : {x : Line} {bytes : Cells ℕ} {σ : Memory} {F : SProp w.𝓤} (run : LinePut w γ x bytes σ F) → line_of w γ run ≡ line_text x

@@ -1,5 +1,5 @@
 -- What is claimed of `scene-fields`: the lines that its calls put are the listing of the reading that the rules define.
-use Rattle.std.specs.Prelude.{ℕ, zero, suc, ◌+◌, ◌≡◌, List, [], ◌++◌, true, length, take}
+use Rattle.std.specs.Prelude.{ℕ, zero, suc, ◌+◌, ◌≡◌, List, [], ◌++◌, true, Ok, length, take}
 use base.Logic.{SProp}
 use Rattle.std.specs.Borrow.{Share}
 use prog.Memory.{Memory}
@@ -12,7 +12,6 @@ use Rattle.metadata.specs.Entry.{metadata_reading}
 use Rattle.metadata.proofs.read_metadata.Symbol.{code as metadata_code}
 use Rattle.known_names.specs.Known.{Explained}
 use Rattle.listing.specs.Listing.{listing}
-use Rattle.part.specs.declared.PartAnswer.TheVariants.{Ended}
 use Rattle.part.specs.Part.{Listed, part_from, part_listed}
 use Rattle.part.proofs.read_part.Symbol.{code as part_code}
 use Rattle.listings.specs.Printed.{part_listing}
@@ -79,7 +78,7 @@ module _ (w : World) (γ : Env) where
     pub metadata_listed : (p : Sent) (σ : Memory) (F : Beside) (run : MetadataRead w γ p σ F) → p.recording ≡ true →
         (text : List ℕ) → PutOut run.answer (refilled p.words run.words) text → text ≡ listing (metadata_reading (input_sent p) p.offset)
     pub metadata_explained : (p : Sent) (σ : Memory) (F : Beside) (run : MetadataRead w γ p σ F) → Explained run.answer.outcome
-    pub part_listed : (p : Asked) (σ : Memory) (F : Beside) (run : PartRead w γ p σ F) (answer : Answer) → run.answer ≡ Ended answer →
+    pub part_listed : (p : Asked) (σ : Memory) (F : Beside) (run : PartRead w γ p σ F) (answer : Answer) → run.answer ≡ Ok answer →
         (text : List ℕ) → PutOut answer (refilled p.words run.words) text → text ≡ part_listing (listed_of p)
-    pub part_explained : (p : Asked) (σ : Memory) (F : Beside) (run : PartRead w γ p σ F) (answer : Answer) → run.answer ≡ Ended answer →
+    pub part_explained : (p : Asked) (σ : Memory) (F : Beside) (run : PartRead w γ p σ F) (answer : Answer) → run.answer ≡ Ok answer →
         Explained answer.outcome

@@ -1,6 +1,6 @@
 -- Runs of the functions over a show file: `show::show`, which puts its text into lent bytes, and `part::read_part`, as they are
 -- in the environment γ.
-use Rattle.std.specs.Prelude.{ℕ, ◌<◌, ◌^◌, ◌≡◌, List, [], ◌∷◌, length}
+use Rattle.std.specs.Prelude.{ℕ, ◌<◌, ◌^◌, ◌≡◌, List, [], ◌∷◌, Result, length}
 use Rattle.std.specs.Int.{w64}
 use mir.Val.{Val, vint, WT}
 use base.Logic.{SProp, sep}
@@ -8,13 +8,19 @@ use Rattle.std.specs.Borrow.{Share}
 use prog.Memory.{Memory}
 use prog.Routine.{Env}
 use borrow.Fn.World.{World}
+use denote.Param.Laws.{struct_told, enum_told}
+use Rattle.std.proofs.result.Result.TheLaws as result
+use Rattle.rules.specs.declared.Answer.{Answer}
+use Rattle.rules.specs.contracts.Answer as answer-row
+use Rattle.rules.proofs.Answer.TheLaws as answer
 use Rattle.text.specs.declared.TextAnswer.{TextAnswer}
 use Rattle.text.proofs.TextAnswer.TheLaws as text-answer
 use Rattle.show.specs.Show.{ShowAnswered}
 use Rattle.show.proofs.show.Symbol.{name as show_name}
-use Rattle.part.specs.declared.PartAnswer.{PartAnswer}
+use Rattle.part.specs.declared.NotRead.{NotRead}
+use Rattle.part.specs.contracts.NotRead as not-read-row
+use Rattle.part.proofs.NotRead.TheLaws as not-read
 use Rattle.part.specs.Part.{part_from, part_listed, PartAnswered}
-use Rattle.part.proofs.PartAnswer.TheLaws as part-answer
 use Rattle.part.proofs.read_part.Symbol.{name as part_name}
 use Rattle.owner.specs.Cells.{Cells, refilled, Slice, slice, pointer}
 use Rattle.owner.specs.Machine.{Ran}
@@ -66,12 +72,18 @@ asked_values p = slice p.file ∷ vint w64 p.part ∷ vint w64 p.offset ∷ slic
 abbrev pub AskedInCells : (w : World) → Asked → List ℕ → SProp w.𝓤 → SProp w.𝓤
 AskedInCells w p ws F = sep w.𝓤 (Bytes w p.share p.file) (sep w.𝓤 (Words w (refilled p.words ws)) F)
 
+-- the machine's value of what is answered
+abbrev pub part_value : Result Answer NotRead → Val
+part_value =
+    result.lowered answer-row.the_row not-read-row.the_row answer.the_row_laws not-read.the_row_laws
+    (struct_told answer-row.the_type answer.the_laws) (enum_told not-read-row.the_type not-read.the_laws)
+
 pub record PartRead (w : World) (γ : Env) (p : Asked) (σ : Memory) (F : SProp w.𝓤) : Type 1 where
-  pub answer : PartAnswer
+  pub answer : Result Answer NotRead
   pub words : List ℕ
   pub memory : Memory
-  pub ran : Ran (γ part_name) (asked_values p) σ (part-answer.lowered answer) memory
-  pub answer_fits : WT (part-answer.lowered answer)
+  pub ran : Ran (γ part_name) (asked_values p) σ (part_value answer) memory
+  pub answer_fits : WT (part_value answer)
   pub words_many : length words ≡ length p.words.held
   pub holds : ◌⊨◌ w memory (AskedInCells w p words F)
   pub answered : PartAnswered (part_listed p.file.held p.part (part_from p.file.held p.part p.offset p.words.held))

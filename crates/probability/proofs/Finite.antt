@@ -3,12 +3,12 @@ use Prim.Native.Nat.{ℕ, zero, suc, ◌+◌, ◌/◌, ◌%◌, ◌≤◌, ◌<�
 use mathlib.Core.Path.{◌≡◌, refl, sym, subst}
 use mathlib.Core.Bool.{Bool, true, false, cond, not}
 use native.Mathlib.Omega.{arith}
-use lib.Dec.{T, eqb, leb}
+use lib.Dec.{T, eqb, leb, ltb}
 use lib.Bits.{bit_and, and_mask}
 use lib.Ieee.{Float, nan, inf, fin, binary32, of_bits, of_fields, odd, is_nan, nan_bits, top, hid}
 use lib.Ieee.Bits.{nan_bits_is}
 use lib.Ieee.Scale.{finite}
-use borrow.Author.Tests.{ne_eqb}
+use borrow.Author.Tests.{ne_eqb, ltb-true, ltb-false}
 
 odd_finite : (d : ℕ) (s : Bool) (q k l : ℕ) → finite (odd d s q k l) ≡ true
 unfolding odd
@@ -30,19 +30,27 @@ fewer s zero t h = odd_finite 24 s t 0 149
 fewer s (suc x) t h = rw (ne_eqb (suc x) 255 (λ e. omega arith)) (odd_finite 24 s (8388608 + t) x 149)
 
 module _ (raw : ℕ) where
-  pub not_finite : 0x7F80_0000 ≤ bit_and raw 0x7FFF_FFFF → finite (of_bits binary32 raw) ≡ false
+  not_finite : 0x7F80_0000 ≤ bit_and raw 0x7FFF_FFFF → finite (of_bits binary32 raw) ≡ false
   unfolding of_bits
   not_finite h =
       let m : 0x7F80_0000 ≤ raw % 0x8000_0000 = subst (λ (n : ℕ). 0x7F80_0000 ≤ n) (and_mask raw 31) h in
       let e : raw % 0x8000_0000 / 0x80_0000 ≡ 255 = omega arith in
       rw e (all_ones (leb (top binary32) raw) (raw % hid binary32))
 
-  pub is_finite : bit_and raw 0x7FFF_FFFF < 0x7F80_0000 → finite (of_bits binary32 raw) ≡ true
+  is_finite : bit_and raw 0x7FFF_FFFF < 0x7F80_0000 → finite (of_bits binary32 raw) ≡ true
   unfolding of_bits
   is_finite h =
       let m : raw % 0x8000_0000 < 0x7F80_0000 = subst (λ (n : ℕ). n < 0x7F80_0000) (and_mask raw 31) h in
       let n : raw % 0x8000_0000 / 0x80_0000 < 255 = omega arith in
       fewer (leb (top binary32) raw) (raw % 0x8000_0000 / 0x80_0000) (raw % hid binary32) n
+
+  -- the code's test
+  pub finite_test : ltb (bit_and raw 0x7FFF_FFFF) 0x7F80_0000 ≡ finite (of_bits binary32 raw)
+  finite_test = go (ltb (bit_and raw 0x7FFF_FFFF) 0x7F80_0000) refl
+    where
+      go : (b : Bool) → ltb (bit_and raw 0x7FFF_FFFF) 0x7F80_0000 ≡ b → b ≡ finite (of_bits binary32 raw)
+      go true e = sym (is_finite (ltb-true _ _ e))
+      go false e = sym (not_finite (ltb-false _ _ e))
 
 -- a finite one is a number
 not_nan : (x : Float) → finite x ≡ true → is_nan x ≡ false

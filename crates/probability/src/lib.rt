@@ -8,36 +8,28 @@ ghost use Rattle.parser.specs.Met.{Met};
 ghost use Rattle.probability.specs.Probability.{from_bits, is_probability, add_float, floats, add_integer, integers, probabilities};
 
 use parser::{Parser, tri};
-use rules::{Field, Reason, leaf};
+use rules::{Field, Names, Reason, leaf};
 
 // `f32::is_finite`, asked of the pattern.
 pub fn is_finite(raw: u32) -> bool
     ensures { result ≡ finite (from_bits raw) }
 {
-    if raw & 0x7FFF_FFFF < 0x7F80_0000 {
-        return true;
-    }
-    false
+    raw & 0x7FFF_FFFF < 0x7F80_0000
 }
 
 // Whether a pattern is finite and not below zero: -0 is.
 fn is_probability(raw: u32) -> bool
     ensures { result ≡ is_probability (from_bits raw) }
 {
-    if is_finite(raw) {
-        let value = f32::from_bits(raw);
-        return !(value < 0.0);
-    }
-    false
+    is_finite(raw) && !(f32::from_bits(raw) < 0.0)
 }
 
 // Value `j` at precision 32, added to those before it.
-fn add_float(parser: &mut Parser<'_>, q: u64, j: u64, sum: f32) -> Result<f32, Reason>
-    requires q_bound { q < 2 ^ 38 }
-    requires j_bound { j < 4096 }
-    ensures { Met (add_float q j sum) parser.old result parser.new }
+fn add_float(parser: &mut Parser<'_>, q: Names<38>, j: u64, sum: f32) -> Result<f32, Reason>
+    requires { j < 4096 }
+    ensures { Met (add_float q.word j sum) parser.old result parser.new }
 {
-    let raw = tri!(parser.take(q + leaf::VALUES_ENCODED + Field::THIRD * j, 32)) as u32;
+    let raw = tri!(parser.take(q.word + leaf::VALUES_ENCODED + Field::THIRD * j, 32)) as u32;
     if is_probability(raw) {
         return Ok(sum + f32::from_bits(raw));
     }
@@ -45,10 +37,9 @@ fn add_float(parser: &mut Parser<'_>, q: u64, j: u64, sum: f32) -> Result<f32, R
 }
 
 // The sum of `n` values at precision 32, in order.
-fn sum_floats(parser: &mut Parser<'_>, q: u64, n: u64) -> Result<f32, Reason>
-    requires q_bound { q < 2 ^ 38 }
-    requires n_bound { n ≤ 4096 }
-    ensures { Met (fold (add_float q) 0 n (from_bits 0)) parser.old result parser.new }
+fn sum_floats(parser: &mut Parser<'_>, q: Names<38>, n: u64) -> Result<f32, Reason>
+    requires { n ≤ 4096 }
+    ensures { Met (fold (add_float q.word) 0 n (from_bits 0)) parser.old result parser.new }
 {
     let mut sum: f32 = 0.0;
     for j in 0..n {
@@ -58,10 +49,9 @@ fn sum_floats(parser: &mut Parser<'_>, q: u64, n: u64) -> Result<f32, Reason>
 }
 
 // The values at precision 32, which come to exactly 1.
-fn floats(parser: &mut Parser<'_>, q: u64, n: u64) -> Result<(), Reason>
-    requires q_bound { q < 2 ^ 38 }
-    requires n_bound { n ≤ 4096 }
-    ensures { Met (floats q n) parser.old result parser.new }
+fn floats(parser: &mut Parser<'_>, q: Names<38>, n: u64) -> Result<(), Reason>
+    requires { n ≤ 4096 }
+    ensures { Met (floats q.word n) parser.old result parser.new }
 {
     let sum = tri!(sum_floats(parser, q, n));
     if sum == 1.0 {
@@ -73,28 +63,26 @@ fn floats(parser: &mut Parser<'_>, q: u64, n: u64) -> Result<(), Reason>
 // Value `j` at another precision, added to those before it.
 fn add_integer(
     parser: &mut Parser<'_>,
-    q: u64,
+    q: Names<38>,
     width: usize,
     j: u64,
     sum: u64,
 ) -> Result<u64, Reason>
-    requires q_bound { q < 2 ^ 38 }
     requires width_bound { width ≤ 32 }
     requires j_bound { j < 4096 }
     requires sum_bound { sum ≤ 2 ^ 32 * j }
-    ensures met { Met (add_integer q width j sum) parser.old result parser.new }
+    ensures met { Met (add_integer q.word width j sum) parser.old result parser.new }
     ensures small { IfOk result (λ v. v < 2 ^ 32 * (j + 1) + 1) }
 {
-    let raw = tri!(parser.take(q + leaf::VALUES_ENCODED + Field::THIRD * j, width));
+    let raw = tri!(parser.take(q.word + leaf::VALUES_ENCODED + Field::THIRD * j, width));
     Ok(sum + raw)
 }
 
 // The sum of `n` values at another precision.
-fn sum_integers(parser: &mut Parser<'_>, q: u64, width: usize, n: u64) -> Result<u64, Reason>
-    requires q_bound { q < 2 ^ 38 }
+fn sum_integers(parser: &mut Parser<'_>, q: Names<38>, width: usize, n: u64) -> Result<u64, Reason>
     requires width_bound { width ≤ 32 }
     requires n_bound { n ≤ 4096 }
-    ensures { Met (fold (add_integer q width) 0 n 0) parser.old result parser.new }
+    ensures { Met (fold (add_integer q.word width) 0 n 0) parser.old result parser.new }
 {
     let mut sum: u64 = 0;
     for j in 0..n {
@@ -104,11 +92,10 @@ fn sum_integers(parser: &mut Parser<'_>, q: u64, width: usize, n: u64) -> Result
 }
 
 // The values at another precision, which do not come to 0.
-fn integers(parser: &mut Parser<'_>, q: u64, width: usize, n: u64) -> Result<(), Reason>
-    requires q_bound { q < 2 ^ 38 }
+fn integers(parser: &mut Parser<'_>, q: Names<38>, width: usize, n: u64) -> Result<(), Reason>
     requires width_bound { width ≤ 32 }
     requires n_bound { n ≤ 4096 }
-    ensures { Met (integers q width n) parser.old result parser.new }
+    ensures { Met (integers q.word width n) parser.old result parser.new }
 {
     let sum = tri!(sum_integers(parser, q, width, n));
     if sum == 0 {
@@ -118,12 +105,11 @@ fn integers(parser: &mut Parser<'_>, q: u64, width: usize, n: u64) -> Result<(),
 }
 
 // The `n` values of a table.
-pub fn probabilities(parser: &mut Parser<'_>, q: u64, n: u64) -> Result<(), Reason>
-    requires q_bound { q < 2 ^ 38 }
-    requires n_bound { n ≤ 4096 }
-    ensures { Met (probabilities q n) parser.old result parser.new }
+pub fn probabilities(parser: &mut Parser<'_>, q: Names<38>, n: u64) -> Result<(), Reason>
+    requires { n ≤ 4096 }
+    ensures { Met (probabilities q.word n) parser.old result parser.new }
 {
-    let width = tri!(parser.take(q + leaf::VALUE_WIDTH_MINUS_ONE, 5)) as usize + 1;
+    let width = tri!(parser.take(q.word + leaf::VALUE_WIDTH_MINUS_ONE, 5)) as usize + 1;
     if width == 32 {
         return floats(parser, q, n);
     }

@@ -11,7 +11,7 @@ use Rattle.rules.specs.declared.reason.Reason.{Reason}
 use Rattle.rules.specs.Rule.{refused}
 use Rattle.rules.specs.Reason.{number_of, end_of}
 use Rattle.rules.proofs.Pick.{by_pick}
-use Rattle.parser.specs.Begun.{IsRefusal}
+use Rattle.rules.specs.Reason.{IsRefusal}
 use Rattle.std.specs.Prelude.{Ok, Err}
 use Rattle.rules.specs.declared.reason.Reason.TheVariants.{ParentUndeclared, ParentsInCircle}
 use Rattle.ranks.specs.Rank.{Chain, parent_of, Declared, climb, chain, judge, on_chain, verdict}

@@ -2,7 +2,7 @@
 #![tactic(auto)]
 
 ghost use Rattle.std.specs.Prelude.{◌≡◌};
-ghost use Rattle.parser.specs.Begun.{IsRefusal, asked};
+ghost use Rattle.rules.specs.Reason.{IsRefusal, asked};
 ghost use Rattle.ranks.specs.Rank.{chain, rank_of, verdict};
 
 use parser::tri;

@@ -2,6 +2,10 @@
 // a text, and whether what a call answered and left is that. `oracle/README.md` says how a record is laid out.
 #![tactic(auto)]
 
+ghost use Rattle.std.specs.Prelude.{◌≡◌, ◌≤◌, ℕ, List, Some, IfOk, IsTrue, ◌==◌, slice_index, length, take, nat_eq};
+ghost use Rattle.std.specs.Io.KnownBytes.{Consumes};
+ghost use Rattle.recorded.specs.Record.{number_of, Decodes, field_of, outcome_from, answer_in, blanks, blank_word, are_blank, bytes_of, BeginsWithNext, NextIs, shape_of};
+
 use position::PositionSyntax;
 use rules::{Answer, Outcome};
 use std::io::Read;
@@ -11,30 +15,38 @@ use text::TextAnswer;
 #[derive(Clone, Copy)]
 pub struct NoRecord;
 
-// What a record asks for.
+// What a record asks for: a reading, or a text.
 #[derive(Clone, Copy)]
 pub enum Kind {
+    Reading(Reading),
+    Name,
+    Show,
+}
+
+// What is read.
+#[derive(Clone, Copy)]
+pub enum Reading {
     Fields,
     Scene,
     Update,
     Position,
     Validation,
     Metadata,
-    Name,
-    Show,
 }
 
 impl TryFrom<u64> for Kind {
     type Error = NoRecord;
 
+    ghost try_from_gives = { Decodes };
+
     fn try_from(code: u64) -> Result<Kind, NoRecord> {
         match code {
-            0 => Ok(Kind::Fields),
-            1 => Ok(Kind::Scene),
-            2 => Ok(Kind::Update),
-            3 => Ok(Kind::Position),
-            4 => Ok(Kind::Validation),
-            5 => Ok(Kind::Metadata),
+            0 => Ok(Kind::Reading(Reading::Fields)),
+            1 => Ok(Kind::Reading(Reading::Scene)),
+            2 => Ok(Kind::Reading(Reading::Update)),
+            3 => Ok(Kind::Reading(Reading::Position)),
+            4 => Ok(Kind::Reading(Reading::Validation)),
+            5 => Ok(Kind::Reading(Reading::Metadata)),
             6 => Ok(Kind::Name),
             7 => Ok(Kind::Show),
             _ => Err(NoRecord),
@@ -43,14 +55,22 @@ impl TryFrom<u64> for Kind {
 }
 
 // The number that bytes hold, the highest first.
-pub fn number(bytes: &[u8]) -> u64 {
-    bytes
-        .iter()
-        .fold(0, |number, &byte| number << 8 | byte as u64)
+#[tactic(auto, using(crate::proofs::Record::number_more), unfolding(crate::specs::Record::number_of))]
+pub fn number(bytes: &[u8]) -> u64
+    ensures { result ≡ number_of bytes.now }
+{
+    let mut number = 0;
+    for &byte in bytes {
+        number = number << 8 | u64::from(byte);
+    }
+    number
 }
 
 // Reads the next bytes of the input, and gives how many there are: a read that fails ends it.
-pub fn read_bytes<R: Read>(input: &mut R, bytes: &mut [u8]) -> usize {
+pub fn read_bytes<R: Read>(input: &mut R, bytes: &mut [u8]) -> usize
+    ensures in_bounds { result ≤ length bytes.new }
+    ensures read { Consumes (R.remaining input.old) (R.remaining input.new) (take result bytes.new) }
+{
     match input::read_input(input, bytes) {
         Ok(length) => length,
         Err(failed) => failed.length,
@@ -58,10 +78,32 @@ pub fn read_bytes<R: Read>(input: &mut R, bytes: &mut [u8]) -> usize {
 }
 
 // The next bytes of the input. Those that are not there are 0, and show as a wrong answer.
-pub fn next_bytes<const N: usize, R: Read>(input: &mut R) -> [u8; N] {
+pub fn next_bytes<const N: usize, R: Read>(input: &mut R) -> [u8; N]
+    ensures { BeginsWithNext (R.remaining input.old) (R.remaining input.new) result }
+{
     let mut bytes = [0; N];
     read_bytes(input, &mut bytes);
     bytes
+}
+
+// A derived `==` of answers and of shapes would call functions of the kit in crates of which `linked` needs every link.
+fn same_answer(one: Answer, other: Answer) -> bool {
+    let same = match (one.outcome, other.outcome) {
+        (Outcome::Read, Outcome::Read) => true,
+        (Outcome::Refused(number), Outcome::Refused(recorded)) => number == recorded,
+        (Outcome::Stopped(number), Outcome::Stopped(recorded)) => number == recorded,
+        _ => false,
+    };
+    same && one.position == other.position && one.fields == other.fields
+}
+
+pub fn same_shape(one: PositionSyntax, other: PositionSyntax) -> bool {
+    one.parent_dynamic == other.parent_dynamic
+        && one.range_dynamic == other.range_dynamic
+        && one.position_precision == other.position_precision
+        && one.rotation_precision == other.rotation_precision
+        && one.parent == other.parent
+        && one.polar == other.polar
 }
 
 // The head of a record.
@@ -70,7 +112,9 @@ pub struct Head([u8; 34]);
 
 impl Head {
     // The next head of the input, if it does not end before it.
-    pub fn next<R: Read>(input: &mut R) -> Result<Option<Head>, NoRecord> {
+    pub fn next<R: Read>(input: &mut R) -> Result<Option<Head>, NoRecord>
+        ensures { IfOk result (λ head. Consumes (R.remaining input.old) (R.remaining input.new) (bytes_of head)) }
+    {
         let mut bytes = [0; 34];
         match read_bytes(input, &mut bytes) {
             0 => Ok(None),
@@ -79,68 +123,126 @@ impl Head {
         }
     }
 
-    pub fn kind(&self) -> Result<Kind, NoRecord> {
-        Kind::try_from(number(&self.0[..1]))
+    // The number of the bytes from one to another.
+    fn number(&self, from: usize, to: usize) -> u64
+        requires order { from ≤ to }
+        requires inside { to ≤ 34 }
+        ensures { result ≡ field_of self.now.0 from to }
+    {
+        number(&self.0[from..to])
     }
 
-    pub fn recording(&self) -> bool {
-        number(&self.0[1..2]) == 1
+    pub fn kind(&self) -> Result<Kind, NoRecord>
+        ensures { Decodes (slice_index self.now.0 0) result }
+    {
+        Kind::try_from(u64::from(self.0[0]))
+    }
+
+    pub fn recording(&self) -> bool
+        ensures { result ≡ slice_index self.now.0 1 == 1 }
+    {
+        self.0[1] == 1
     }
 
     // How many words are lent for fields, or bytes for a name.
-    pub fn room(&self) -> usize {
-        number(&self.0[2..6]) as usize
+    pub fn room(&self) -> usize
+        ensures { result ≡ field_of self.now.0 2 6 }
+    {
+        self.number(2, 6) as usize
     }
 
     // The bit that a reading begins at, or the position that a validation is handed.
-    pub fn offset(&self) -> usize {
+    pub fn offset(&self) -> usize
+        ensures { result ≡ field_of self.now.0 6 14 }
+    {
         self.word() as usize
     }
 
     // A name's word, which stands in the place of the offset.
-    pub fn word(&self) -> u64 {
-        number(&self.0[6..14])
+    pub fn word(&self) -> u64
+        ensures { result ≡ field_of self.now.0 6 14 }
+    {
+        self.number(6, 14)
     }
 
     // How many bytes the input has.
-    pub fn size(&self) -> usize {
-        number(&self.0[14..18]) as usize
+    pub fn size(&self) -> usize
+        ensures { result ≡ field_of self.now.0 14 18 }
+    {
+        self.number(14, 18) as usize
     }
 
     // How many operations or shapes are handed in, or whether a position is full.
-    pub fn count(&self) -> usize {
-        number(&self.0[18..20]) as usize
+    pub fn count(&self) -> usize
+        ensures { result ≡ field_of self.now.0 18 20 }
+    {
+        self.number(18, 20) as usize
     }
 
     // How many fields are counted, or how long a text is.
-    fn fields(&self) -> usize {
-        number(&self.0[30..]) as usize
+    fn fields(&self) -> usize
+        ensures { result ≡ field_of self.now.0 30 34 }
+    {
+        self.number(30, 34) as usize
+    }
+
+    // How the call ended, if a call can end so.
+    fn outcome(&self) -> Option<Outcome>
+        ensures { result ≡ outcome_from (slice_index self.now.0 20) (slice_index self.now.0 21) }
+    {
+        let number = u16::from(self.0[21]);
+        match (self.0[20], number) {
+            (0, 0) => Some(Outcome::Read),
+            (1, _) => Some(Outcome::Refused(number)),
+            (2, _) => Some(Outcome::Stopped(number)),
+            _ => None,
+        }
+    }
+
+    // The recorded answer, if it can be one.
+    fn answer(&self) -> Option<Answer>
+        ensures { result ≡ answer_in self.now.0 }
+    {
+        Some(Answer {
+            outcome: self.outcome()?,
+            position: self.number(22, 30) as usize,
+            fields: self.fields(),
+        })
     }
 
     // Whether an answer is the recorded one.
     pub fn agrees(&self, answer: Answer) -> bool {
-        let (outcome, told) = match answer.outcome {
-            Outcome::Read => (0, 0),
-            Outcome::Refused(number) => (1, number as u64),
-            Outcome::Stopped(number) => (2, number as u64),
-        };
-        number(&self.0[20..21]) == outcome
-            && number(&self.0[21..22]) == told
-            && number(&self.0[22..30]) == answer.position as u64
-            && self.fields() == answer.fields
+        match self.answer() {
+            Some(recorded) => same_answer(recorded, answer),
+            None => false,
+        }
     }
 }
 
-// What is lent to a call: the words of fields, or the bytes of a text.
-pub trait Lent: Copy + PartialEq {
+// What stands at one place of what is lent to a call: a word of fields, or a byte of a text.
+pub trait Place: Copy + PartialEq {
+    ghost blank_of: { ℕ → Self };
+
     // What stands at a place before the call.
-    fn blank(place: usize) -> Self;
+    fn blank(place: usize) -> Self
+        ensures { result ≡ blank_of place };
+
+    ghost value_of: { List ℕ → Self };
+
+    ghost size: { ℕ };
 
     // What the input has next.
-    fn next<R: Read>(input: &mut R) -> Self;
+    fn next<R: Read>(input: &mut R) -> Self
+        ensures { NextIs size value_of (R.remaining input.old) (R.remaining input.new) result };
 }
 
-impl Lent for u64 {
+impl Place for u64 {
+    ghost blank_of = { blank_word };
+
+    ghost value_of = { number_of };
+
+    ghost size = { 8 };
+
     fn blank(place: usize) -> u64 {
         0xA5A5A5A500000000 | (place % 65536) as u64
     }
@@ -151,7 +253,13 @@ impl Lent for u64 {
 }
 
 // No text has such a byte.
-impl Lent for u8 {
+impl Place for u8 {
+    ghost blank_of = { λ _. 165 };
+
+    ghost value_of = { λ bytes. slice_index bytes 0 };
+
+    ghost size = { 1 };
+
     fn blank(_place: usize) -> u8 {
         0xA5
     }
@@ -162,32 +270,50 @@ impl Lent for u8 {
 }
 
 // Blanks what is lent, before the call.
-pub fn clear<T: Lent>(lent: &mut [T]) {
+#[tactic(auto, using(crate::proofs::Record::blank_more))]
+pub fn clear<T: Place>(lent: &mut [T])
+    ensures { lent.new ≡ blanks T.blank_of (length lent.old) }
+{
     for (i, place) in lent.iter_mut().enumerate() {
         *place = T::blank(i);
     }
 }
 
+// Whether the places from `n` on hold what they held before the call.
+fn are_blank<T: Place>(lent: &[T], n: usize) -> bool
+    ensures { result ≡ are_blank T.eq T.blank_of n lent.now }
+{
+    lent.iter()
+        .enumerate()
+        .skip(n)
+        .all(|(i, place)| *place == T::blank(i))
+}
+
 // Whether the first `n` places that were lent hold what the input has next, and those after them what they held.
-pub fn is_recorded<T: Lent, R: Read>(input: &mut R, lent: &[T], n: usize) -> bool {
+pub fn is_recorded<T: Place, R: Read>(input: &mut R, lent: &[T], n: usize) -> bool
+    ensures { IsTrue result → IsTrue (are_blank T.eq T.blank_of n lent.now) }
+{
     let mut same = true;
-    for (i, place) in lent.iter().enumerate() {
-        let expected = if i < n { T::next(input) } else { T::blank(i) };
-        if *place != expected {
+    for place in lent.iter().take(n) {
+        if *place != T::next(input) {
             same = false;
         }
     }
-    same
+    same && are_blank(lent, n)
 }
 
 // The next count, of 2 bytes.
-pub fn next_count<R: Read>(input: &mut R) -> usize {
+pub fn next_count<R: Read>(input: &mut R) -> usize
+    ensures { NextIs 2 number_of (R.remaining input.old) (R.remaining input.new) result }
+{
     number(&next_bytes::<2, R>(input)) as usize
 }
 
 // The next shape: flags (1 byte: parent dynamic, range dynamic, polar from the lowest bit), three bytes of 0, the
 // precisions (4 each) and the parent (8).
-pub fn next_shape<R: Read>(input: &mut R) -> PositionSyntax {
+pub fn next_shape<R: Read>(input: &mut R) -> PositionSyntax
+    ensures { NextIs 20 shape_of (R.remaining input.old) (R.remaining input.new) result }
+{
     let bytes = next_bytes::<20, R>(input);
     let flags = bytes[0];
     PositionSyntax {
@@ -219,15 +345,6 @@ pub fn next_shapes<R: Read>(input: &mut R, n: usize) -> [PositionSyntax; 63] {
     shapes
 }
 
-pub fn same_shape(one: PositionSyntax, other: PositionSyntax) -> bool {
-    one.parent_dynamic == other.parent_dynamic
-        && one.range_dynamic == other.range_dynamic
-        && one.position_precision == other.position_precision
-        && one.rotation_precision == other.rotation_precision
-        && one.parent == other.parent
-        && one.polar == other.polar
-}
-
 // Whether the first `n` shapes are the next of the input, and the others those of `others`.
 pub fn same_shapes<R: Read>(
     input: &mut R,
@@ -247,7 +364,9 @@ pub fn same_shapes<R: Read>(
 
 // Whether a text, put into bytes that were blank, and its answer are as recorded. The record has the text's length in the
 // place of the fields.
-pub fn text_agrees<R: Read>(input: &mut R, head: &Head, answer: TextAnswer, bytes: &[u8]) -> bool {
+pub fn text_agrees<R: Read>(input: &mut R, head: &Head, answer: TextAnswer, bytes: &[u8]) -> bool
+    ensures others { let n = field_of head.now.0 30 34 in IsTrue result → IsTrue (are_blank nat_eq (λ _. 165) n bytes.now) }
+{
     let same = is_recorded(input, bytes, head.fields());
     same && head.agrees(Answer {
         outcome: answer.outcome,

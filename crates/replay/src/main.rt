@@ -7,8 +7,8 @@
 
 use parser::Parser;
 use position::PositionSyntax;
-use recorded::{Head, Kind, NoRecord};
-use rules::{Answer, Outcome};
+use recorded::{Head, Kind, NoRecord, Reading};
+use rules::Answer;
 use std::alloc::Global;
 use std::io::{self, Read};
 
@@ -30,7 +30,7 @@ impl Tally {
     fn counted(self, right: bool) -> Tally {
         Tally {
             run: self.run.wrapping_add(1),
-            wrong: self.wrong.wrapping_add(if right { 0 } else { 1 }),
+            wrong: self.wrong.wrapping_add(u64::from(!right)),
         }
     }
 
@@ -54,12 +54,9 @@ struct Ran {
 fn run_fields<R: Read>(reader: &mut R, head: &Head, bytes: &[u8], words: &mut [u64]) -> Ran {
     let mut parser = Parser::new(bytes, words, head.recording(), 0);
     let begun = parser.entry(Ok(()), head.offset());
-    let outcome = match script::operations(reader, &mut parser, begun, head.count()) {
-        Ok(()) => Outcome::Read,
-        Err(reason) => Outcome::from(reason),
-    };
+    let ended = script::operations(reader, &mut parser, begun, head.count());
     Ran {
-        answer: parser.answer(outcome),
+        answer: parser.answer(ended),
         same: true,
     }
 }
@@ -151,6 +148,7 @@ fn show_agrees<R: Read>(reader: &mut R, head: &Head, bytes: &mut [u8]) -> Result
 // Whether a reading is answered as recorded, in the input and the words that it is lent, if there are as many.
 fn reading_agrees<R: Read>(
     reader: &mut R,
+    reading: Reading,
     head: &Head,
     bytes: &mut [u8],
     words: &mut [u64],
@@ -159,13 +157,13 @@ fn reading_agrees<R: Read>(
     let words = words.get_mut(..head.room()).ok_or(NoRecord)?;
     let got = recorded::read_bytes(reader, bytes);
     recorded::clear(words);
-    let ran = match head.kind()? {
-        Kind::Scene => run_scene(reader, head, bytes, words),
-        Kind::Update => run_update(reader, head, bytes, words),
-        Kind::Position => run_position(reader, head, bytes, words),
-        Kind::Validation => run_validation(reader, head),
-        Kind::Metadata => run_metadata(head, bytes, words),
-        _ => run_fields(reader, head, bytes, words),
+    let ran = match reading {
+        Reading::Fields => run_fields(reader, head, bytes, words),
+        Reading::Scene => run_scene(reader, head, bytes, words),
+        Reading::Update => run_update(reader, head, bytes, words),
+        Reading::Position => run_position(reader, head, bytes, words),
+        Reading::Validation => run_validation(reader, head),
+        Reading::Metadata => run_metadata(head, bytes, words),
     };
     let n = written(head.recording(), ran.answer.fields);
     let same = recorded::is_recorded(reader, words, n);
@@ -182,9 +180,9 @@ fn next_agrees<R: Read>(
         return Ok(None);
     };
     let agrees = match head.kind()? {
+        Kind::Reading(reading) => reading_agrees(reader, reading, &head, bytes, words)?,
         Kind::Name => name_agrees(reader, &head, bytes)?,
         Kind::Show => show_agrees(reader, &head, bytes)?,
-        _ => reading_agrees(reader, &head, bytes, words)?,
     };
     Ok(Some(agrees))
 }

@@ -7,7 +7,7 @@ use borrow.Author.Tests.{ne_eqb}
 use lib.ListN.{length}
 use lib.Dec.{leb}
 use Rattle.rules.specs.Rule.{Rule, End, refused, stopped, ends, ◌>>=◌, pick}
-use Rattle.rules.specs.Reading.{Reading, Result, read, ended, Input, reading, is_read}
+use Rattle.rules.specs.Reading.{Result, read, ended, Input, reading, is_read}
 use Rattle.rules.specs.Derived.{demand, entry}
 use Rattle.rules.specs.Answer.{end_outcome, outcome_of, value_or, entry_then, entry_reading}
 use Rattle.rules.proofs.Laws.{never}

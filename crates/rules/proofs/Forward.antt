@@ -1,13 +1,10 @@
 -- Law (f), its first part: a reading never moves back.
 use Prim.Native.Nat.{ℕ, ◌+◌, ◌-◌, ◌≤◌}
-use mathlib.Core.Path.{◌≡◌, refl}
-use mathlib.Core.List.{List}
-use mathlib.Core.Bool.{Bool, true, false}
 use native.Mathlib.Omega.{arith}
 use lib.Dec.{ltb}
 use Rattle.bits.specs.Bits.{bits_at}
 use Rattle.rules.specs.Rule.{Rule, done, ends, position_then, end_then, bits_then, skip_then, field_then, set_end_then}
-use Rattle.rules.specs.Reading.{Reading, Input, reading, has_room, inside, is_read}
+use Rattle.rules.specs.Reading.{Reading, Input, reading, has_room, inside}
 use Rattle.rules.proofs.Pick.{by_pick}
 
 abbrev From : {A : Type 0} → ℕ → Reading A → Type 0

@@ -1,9 +1,12 @@
 -- What an entry answers: the outcome with document 01's number, the bit position, the fields counted; the value that was
 -- read, or what stands in its place; and every word of the buffer.
-use Rattle.std.specs.Prelude.{ℕ, ◌≡◌, List, Bool, length}
+use Rattle.std.specs.Prelude as std
+use Rattle.std.specs.Prelude.{ℕ, ◌≡◌, List, Bool, Ok, Err, length}
 use Rattle.rules.specs.declared.Answer.{Answer}
 use Rattle.rules.specs.declared.Outcome.{Outcome}
 use Rattle.rules.specs.declared.Outcome.TheVariants.{Read, Refused, Stopped}
+use Rattle.rules.specs.declared.reason.Reason.{Reason}
+use Rattle.rules.specs.Reason.{end_of}
 use Rattle.rules.specs.Rule.{Rule, End, refused, stopped, ◌>>=◌}
 use Rattle.rules.specs.Reading.{Reading, Result, read, ended, Input, reading}
 use Rattle.rules.specs.Derived.{entry}
@@ -17,6 +20,11 @@ end_outcome (stopped n) = Stopped n
 abbrev pub outcome_of : {A : Type 0} → Result A → Outcome
 outcome_of (read a) = Read
 outcome_of (ended x) = end_outcome x
+
+-- the case of what the code gives where it reads
+abbrev pub ended_as : std.Result (Unit {0}) Reason → Outcome
+ended_as (Ok u) = Read
+ended_as (Err e) = end_outcome (end_of e)
 
 -- and the number of each case: 0 if read
 abbrev pub outcome_number : Outcome → ℕ

@@ -5,7 +5,7 @@ use Rattle.rules.specs.declared.Field.{Field}
 use Rattle.rules.specs.declared.FieldValue.{FieldValue}
 use Rattle.rules.specs.declared.Outcome.{Outcome}
 use Rattle.rules.specs.declared.Outcome.TheVariants.{Read, Refused, Stopped}
-use Rattle.rules.specs.Rule.{Rule, done, ends, position_then, end_then, bits_then, skip_then, field_then, set_end_then, End, refused, stopped, pick}
+use Rattle.rules.specs.Rule.{Rule, done, ends, position_then, end_then, bits_then, skip_then, field_then, set_end_then, End, refused, pick}
 
 -- the value of a rule that was read, or how it ended
 pub data Result (A : Type 0) : Type 0 where

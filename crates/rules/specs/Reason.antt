@@ -1,5 +1,5 @@
 -- Why a reading ended, by the code's enum: document 01's number, and whether it refuses or stops.
-use Rattle.std.specs.Prelude.{ℕ, ◌≡◌, Result, MatchResult}
+use Rattle.std.specs.Prelude.{ℕ, ◌≡◌, Result, Ok, Err, MatchResult}
 use Rattle.rules.specs.declared.reason.Reason.{Reason}
 use Rattle.rules.specs.declared.reason.Reason.TheVariants.{InputTooLong, BadShapes, BitsMissing, TooManyFields, NoRoom, BadCount, ExtensionsUnended, ParentUndeclared, ParentsInCircle, NoConfiguration, TooManyParameters, TooManyRendererParameters, ReverbType, MatrixLocation, RadiationType, ComponentType, LabelUnended, HeadphoneBytes, CompressionBytes, SymbolWidth, CodewordWidth, BadProbabilities, FileTooLong, HeaderUnsound, NameUnknown, TextTooLong, RoomGeometryFallback, DoublePrecision, HrtfType2, HrtfType, LzwWidth}
 use Rattle.rules.specs.declared.reason.UnknownReason.{UnknownReason}
@@ -70,6 +70,19 @@ end_of DoublePrecision = stopped 32
 end_of HrtfType2 = stopped 33
 end_of HrtfType = stopped 34
 end_of LzwWidth = stopped 35
+
+-- the number of a question that is not met, or 0
+abbrev pub asked : {A : Type 0} → Result A Reason → ℕ
+asked (Ok a) = 0
+asked (Err e) = number_of e
+
+-- it refuses, and stops nothing
+abbrev pub Refuses : Reason → Type 0
+Refuses e = end_of e ≡ refused (number_of e)
+
+abbrev pub IsRefusal : {A : Type 0} → Result A Reason → Type 0
+IsRefusal (Ok a) = Unit {0}
+IsRefusal (Err e) = Refuses e
 
 -- the reason that has a number, or the number itself if none has it
 abbrev pub Decodes : ℕ → Result Reason UnknownReason → Type 0

@@ -39,6 +39,9 @@ is_value kind n = pick (eqb kind 0) (leb n 1) (leb kind 3)
 abbrev pub value_from : ℕ → ℕ → FieldValue
 value_from kind n = pick (eqb kind 0) (Flag (eqb n 1)) (pick (eqb kind 1) (Number n) (pick (eqb kind 2) (Bits n) (Bytes n)))
 
+abbrev pub value_at : ℕ → ℕ → Option FieldValue
+value_at kind n = pick (is_value kind n) (Some (value_from kind n)) None
+
 unfoldable pub field_at : List ℕ → ℕ → Option Field
 field_at ws i =
     let k = 5 * i in

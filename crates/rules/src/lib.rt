@@ -3,12 +3,14 @@
 
 ghost use Rattle.std.specs.Prelude.{◌≡◌};
 ghost use Rattle.rules.specs.Reading.{is_read};
-ghost use Rattle.rules.specs.Words.{kind_of, number_of, is_value, value_from, field_at};
+ghost use Rattle.rules.specs.Words.{kind_of, number_of, value_at, field_at};
 
 pub mod block;
 pub mod leaf;
+pub mod names;
 pub mod reason;
 
+pub use names::Names;
 pub use reason::Reason;
 
 // How a reading ended, as it is told, with document 01's number. Callers meet numbers: the papers give them, and they cross to C.
@@ -81,30 +83,18 @@ impl FieldValue {
             FieldValue::Bytes(n) => n,
         }
     }
-    // Whether a kind and a number make a value: a flag is 0 or 1.
-    fn is_value(kind: u64, number: u64) -> bool
-        ensures { result ≡ is_value kind number }
-    {
-        if kind == 0 {
-            return number <= 1;
-        }
-        kind <= 3
-    }
 
-    // That value.
-    fn from_words(kind: u64, number: u64) -> FieldValue
-        ensures { result ≡ value_from kind number }
+    // The value of a kind and a number, if they make one: a flag is 0 or 1.
+    fn from_words(kind: u64, number: u64) -> Option<FieldValue>
+        ensures { result ≡ value_at kind number }
     {
-        if kind == 0 {
-            return FieldValue::Flag(number == 1);
+        match kind {
+            0 if number <= 1 => Some(FieldValue::Flag(number == 1)),
+            1 => Some(FieldValue::Number(number)),
+            2 => Some(FieldValue::Bits(number)),
+            3 => Some(FieldValue::Bytes(number)),
+            _ => None,
         }
-        if kind == 1 {
-            return FieldValue::Number(number);
-        }
-        if kind == 2 {
-            return FieldValue::Bits(number);
-        }
-        FieldValue::Bytes(number)
     }
 }
 
@@ -127,17 +117,14 @@ impl Field {
             return None;
         }
         let k = 5 * index;
-        let kind = words[k + 2];
-        let number = words[k + 3];
-        if FieldValue::is_value(kind, number) {
-            let value = FieldValue::from_words(kind, number);
-            return Some(Field {
+        match FieldValue::from_words(words[k + 2], words[k + 3]) {
+            Some(value) => Some(Field {
                 bit_offset: words[k] as usize,
                 bit_length: words[k + 1] as usize,
                 value,
                 name: words[k + 4],
-            });
+            }),
+            None => None,
         }
-        None
     }
 }

@@ -1,8 +1,8 @@
-// Why a reading ended before it was done, with document 01's number (docs/NUMBERS.md has the words of each). 31 and above stop
-// a reading, the others refuse it.
+// Why a reading ended before it was done, with document 01's number (docs/NUMBERS.md has the words of each). Those from the first
+// stop on stop a reading, the others refuse it; 23 and 24 refuse a show file, 25 and 26 a name's text.
 ghost use Rattle.std.specs.Prelude.{◌≡◌};
 ghost use Rattle.rules.specs.Reason.{number_of, end_of, Decodes};
-ghost use Rattle.rules.specs.Answer.{end_outcome};
+ghost use Rattle.rules.specs.Answer.{end_outcome, ended_as};
 
 use super::Outcome;
 
@@ -46,6 +46,9 @@ pub enum Reason {
 pub struct UnknownReason(pub u16);
 
 impl Reason {
+    // The least number of a reason that stops.
+    const FIRST_STOP: u16 = Reason::RoomGeometryFallback as u16;
+
     // Document 01's number.
     pub fn number(self) -> u16
         ensures { result ≡ number_of self }
@@ -59,10 +62,21 @@ impl From<Reason> for Outcome {
         ensures { result ≡ end_outcome (end_of reason) }
     {
         let number = reason.number();
-        if number < 31 {
+        if number < Reason::FIRST_STOP {
             Outcome::Refused(number)
         } else {
             Outcome::Stopped(number)
+        }
+    }
+}
+
+impl From<Result<(), Reason>> for Outcome {
+    fn from(ended: Result<(), Reason>) -> Outcome
+        ensures { result ≡ ended_as ended }
+    {
+        match ended {
+            Ok(()) => Outcome::Read,
+            Err(reason) => Outcome::from(reason),
         }
     }
 }

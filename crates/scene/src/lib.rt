@@ -7,7 +7,7 @@ ghost use Rattle.scene.specs.Scene.{defaults, scene_fields, scene_graph, scene_r
 
 use parser::{Parser, tri};
 use position::PositionSyntax;
-use rules::{Answer, Outcome, Reason, block, leaf};
+use rules::{Answer, Reason, block, leaf};
 
 // What a scene answers: the number of its positions, and their shapes, of which those beyond it are the default. Unless
 // it was read there are none.
@@ -66,12 +66,12 @@ pub fn read_scene(bytes: &[u8], offset: usize, recording: bool, words: &mut [u64
     let mut shapes = defaults();
     match entered(&mut parser, offset, &mut shapes) {
         Ok(count) => SceneAnswer {
-            answer: parser.answer(Outcome::Read),
+            answer: parser.answer(Ok(())),
             count,
             shapes,
         },
         Err(reason) => SceneAnswer {
-            answer: parser.answer(Outcome::from(reason)),
+            answer: parser.answer(Err(reason)),
             count: 0,
             shapes: defaults(),
         },

@@ -3,7 +3,7 @@
 // program was called in another way, and else 1.
 #![tactic(auto)]
 
-use part::PartAnswer;
+use part::NotRead;
 use request::Request;
 use rules::Answer;
 use std::alloc::AllocError;
@@ -58,6 +58,15 @@ impl From<AllocError> for Failure {
     }
 }
 
+impl From<NotRead> for Failure {
+    fn from(why: NotRead) -> Failure {
+        match why {
+            NotRead::NoPart => Failure::NoPart,
+            NotRead::NoScene => Failure::NoScene,
+        }
+    }
+}
+
 impl From<Failure> for ExitCode {
     fn from(failure: Failure) -> ExitCode {
         match failure {
@@ -93,11 +102,7 @@ fn read(request: Request, file: &[u8], words: &mut [u64]) -> Result<Answer, Fail
     match request {
         Request::Scene(bit) => Ok(scene::read_scene(file, bit, true, words).answer),
         Request::Metadata(bit) => Ok(metadata::read_metadata(file, bit, true, words)),
-        Request::Part(k, bit) => match part::read_part(file, k, bit, words) {
-            PartAnswer::Ended(answer) => Ok(answer),
-            PartAnswer::NoPart => Err(Failure::NoPart),
-            PartAnswer::NoScene => Err(Failure::NoScene),
-        },
+        Request::Part(k, bit) => Ok(part::read_part(file, k, bit, words)?),
     }
 }
 

@@ -1,51 +1,52 @@
 // A scene reverb, kind 9 of renderer data: passive_renderer.rs. The names begin with the word `q`.
 #![tactic(auto)]
 
-ghost use Rattle.std.specs.Prelude.{◌<◌, ◌^◌};
 ghost use Rattle.parser.specs.Met.{Met};
 ghost use Rattle.scene_reverb.specs.SceneReverb.{index_and_reverb, resource_and_reverb, room_geometry, scene_reverb};
 
 use parser::{Parser, tri};
-use rules::{Reason, leaf};
+use rules::{Names, Reason, leaf};
 
 // Kind 9, type 1: an index and a reverb.
-fn index_and_reverb(parser: &mut Parser<'_>, q: u64) -> Result<(), Reason>
-    requires { q < 2 ^ 38 }
-    ensures { Met (index_and_reverb q) parser.old result parser.new }
+fn index_and_reverb(parser: &mut Parser<'_>, q: Names<38>) -> Result<(), Reason>
+    ensures { Met (index_and_reverb q.word) parser.old result parser.new }
 {
-    tri!(parser.take(q + leaf::INDEX, 10));
+    tri!(parser.take(q.word + leaf::INDEX, 10));
     common::metadata_reverb(parser, q)
 }
 
 // Kind 9, type 2: a resource, an index and a reverb.
-fn resource_and_reverb(parser: &mut Parser<'_>, q: u64) -> Result<(), Reason>
-    requires { q < 2 ^ 38 }
-    ensures { Met (resource_and_reverb q) parser.old result parser.new }
+fn resource_and_reverb(parser: &mut Parser<'_>, q: Names<38>) -> Result<(), Reason>
+    ensures { Met (resource_and_reverb q.word) parser.old result parser.new }
 {
-    tri!(common::metadata_resource(parser, q + leaf::RESOURCE));
+    let resource = Names {
+        word: q.word + leaf::RESOURCE,
+    };
+    tri!(common::metadata_resource(parser, resource));
     index_and_reverb(parser, q)
 }
 
 // Kind 9, type 3: a fallback other than 0 stops the reading.
-fn room_geometry(parser: &mut Parser<'_>, q: u64) -> Result<(), Reason>
-    requires { q < 2 ^ 38 }
-    ensures { Met (room_geometry q) parser.old result parser.new }
+fn room_geometry(parser: &mut Parser<'_>, q: Names<38>) -> Result<(), Reason>
+    ensures { Met (room_geometry q.word) parser.old result parser.new }
 {
-    tri!(common::metadata_resource(parser, q + leaf::RESOURCE));
-    let fallback = tri!(parser.take(q + leaf::FALLBACK_TYPE, 3));
+    let resource = Names {
+        word: q.word + leaf::RESOURCE,
+    };
+    tri!(common::metadata_resource(parser, resource));
+    let fallback = tri!(parser.take(q.word + leaf::FALLBACK_TYPE, 3));
     if fallback == 0 {
         let widths: [usize; 32] = [32; 32];
-        return common::values(parser, q + leaf::RENDERER_VALUES, &widths);
+        return common::values(parser, q.word + leaf::RENDERER_VALUES, &widths);
     }
     Err(Reason::RoomGeometryFallback)
 }
 
-// Kind 9: a scene reverb.
-pub fn scene_reverb(parser: &mut Parser<'_>, q: u64) -> Result<(), Reason>
-    requires { q < 2 ^ 38 }
-    ensures { Met (scene_reverb q) parser.old result parser.new }
+// Kind 9: a scene reverb. A type is used by its arm alone, and an enum would only name each number twice.
+pub fn scene_reverb(parser: &mut Parser<'_>, q: Names<38>) -> Result<(), Reason>
+    ensures { Met (scene_reverb q.word) parser.old result parser.new }
 {
-    let kind = tri!(parser.take(q + leaf::TYPE, 3));
+    let kind = tri!(parser.take(q.word + leaf::TYPE, 3));
     match kind {
         0 => Ok(()),
         1 => index_and_reverb(parser, q),

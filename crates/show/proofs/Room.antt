@@ -1,28 +1,25 @@
 -- The bytes that are lent for the text are enough for every file.
 use Prim.Native.Nat.{ℕ, zero, suc, ◌+◌, ◌-◌, ◌*◌, ◌≤◌}
-use mathlib.Core.Path.{◌≡◌, refl, sym, ap, ◌∙◌}
+use mathlib.Core.Path.{◌≡◌, refl, ap}
 use mathlib.Core.List.{List, [], ◌∷◌}
 use mathlib.Core.Bool.{Bool, true, false}
 use native.Mathlib.Omega.{arith}
-use borrow.Author.Tests.{eqb-true, ne_eqb}
+use borrow.Author.Tests.{eqb-true}
 use lib.Dec.{eqb}
 use lib.ListN.{length, length-append}
 use Rattle.rules.specs.declared.Answer.{Answer}
-use Rattle.rules.specs.declared.Outcome.TheVariants.{Read, Refused}
 use Rattle.rules.specs.Reading.{is_read}
 use Rattle.rules.proofs.Pick.{by_pick}
 use Rattle.position.specs.declared.PositionSyntax.{PositionSyntax}
 use Rattle.book.specs.Book.{Packet, Given, scene_step, update_step, book_first, book_answers, book_shapes}
 use Rattle.book.proofs.Steps.{told_many}
 use Rattle.book.proofs.Book.{shapes_many, first_many}
-use Rattle.text.specs.Text.{line, Put}
-use Rattle.text.proofs.Puts.{put_long}
-use Rattle.show_header.specs.Header.{HeaderSound, part_count, is_sound, file_question}
+use Rattle.show_header.specs.Header.{part_count, is_sound, file_question}
 use Rattle.show_header.proofs.Sound.{sound_if, question_met}
 use Rattle.show_parts.specs.Parts.{packet, packets}
 use Rattle.show_lines.specs.Lines.{part_line, all_positions}
 use Rattle.show_lines.proofs.Room.{part_most, all_most, refused_most}
-use Rattle.show.specs.Show.{part_lines, updates_text, rest_text, parts_text, show_text, ShowAnswered}
+use Rattle.show.specs.Show.{part_lines, updates_text, rest_text, parts_text, show_text}
 
 -- the lines of the parts: none of them is longer than 84 bytes
 parts_most : (k : ℕ) (gs : List Given) → length (part_lines k gs) ≤ 84 * length gs
@@ -85,28 +82,3 @@ show_enough file =
     by_pick (λ l. length l ≤ 32768) (eqb (file_question file) 0) (parts_text file) _
     (λ t. parts_text_most file (question_met file (eqb-true _ _ t)))
     (λ _. let most = refused_most (file_question file) in omega arith)
-
--- So there is room for the text of a file that is read, and of one that is refused, and what is put is the answer.
-module _ (file before : List ℕ) {n : ℕ} (e : n ≡ file_question file) (long : length before ≡ 32768) where
-  pub room_read : n ≡ 0 → HeaderSound file × (0 + length (parts_text file) ≤ length before)
-  room_read z =
-      let t = question_met file (sym e ∙ z) in
-      let most = parts_text_most file t in
-      (sound_if file t, omega arith)
-
-  pub answered_read : n ≡ 0 → {to : ℕ} {after : List ℕ} → Put before 0 (parts_text file) to after →
-      ShowAnswered file before (record { outcome = Read; position = 0; length = to }) after
-  unfolding show_text
-  answered_read z p =
-      let met : file_question file ≡ 0 = sym e ∙ z in
-      record { outcome = rw met; position = refl; text = rw met p; room = omega (arith, p.place, put_long p, (room_read z).1) }
-
-  pub room_refused : 0 + length (line (("file refused ", n) ∷ [])) ≤ length before
-  room_refused = let most = refused_most n in omega arith
-
-  pub answered_refused : (n ≡ 0 → ⊥) → {to : ℕ} {after : List ℕ} → Put before 0 (line (("file refused ", n) ∷ [])) to after →
-      ShowAnswered file before (record { outcome = Refused n; position = 0; length = to }) after
-  unfolding show_text
-  answered_refused z p =
-      let not-met = ne_eqb n 0 z in
-      record { outcome = rw (← e, not-met); position = refl; text = rw (← e, not-met) p; room = omega (arith, p.place, put_long p, room_refused) }

@@ -2,13 +2,23 @@
 // asked of the file before any part is read.
 #![tactic(auto)]
 
-ghost use Rattle.std.specs.Prelude.{◌≡◌, ◌≤◌};
-ghost use Rattle.show_header.specs.Header.{part_count, offset_of, end_of, in_order, is_sound, file_question};
+ghost use Rattle.std.specs.Prelude.{◌≡◌, ◌≤◌, ◌<◌, IfOk, IfErr};
+ghost use Rattle.show_header.specs.Header.{HeaderSound, part_count, offset_of, end_of, part_of, in_order, is_sound, file_question};
+ghost use Rattle.rules.specs.Reason.{asked, Refuses};
+
+use rules::Reason;
 
 // The most bytes of a file, and the most parts.
 const BYTES: usize = 65536;
 
 const PARTS: usize = 256;
+
+// A show file, which has a sound header.
+#[derive(Clone, Copy)]
+pub struct ShowFile<'a> {
+    pub bytes: &'a [u8],
+    ghost sound: { HeaderSound bytes.now },
+}
 
 pub fn part_count(file: &[u8]) -> usize
     ensures { result ≡ part_count file.now }
@@ -40,12 +50,10 @@ fn in_order(file: &[u8], count: usize) -> bool
     requires { count ≤ 256 }
     ensures { result ≡ in_order file.now count 0 }
 {
-    let mut k = 0;
-    while k < count {
+    for k in 0..count {
         if end_of(file, k) < offset_of(file, k) {
             return false;
         }
-        k += 1;
     }
     true
 }
@@ -66,15 +74,35 @@ fn is_sound(file: &[u8]) -> bool
     in_order(file, count)
 }
 
-// Questions 23 and 24: the number of the first that is not met, or 0.
-pub fn file_question(file: &[u8]) -> u16
-    ensures { result ≡ file_question file.now }
-{
-    if BYTES < file.len() {
-        return 23;
+impl<'a> ShowFile<'a> {
+    // Asks questions 23 and 24: a file that meets both is a show, and any other is refused for the first that it does not meet.
+    pub fn new(bytes: &'a [u8]) -> Result<ShowFile<'a>, Reason>
+        ensures number { asked result ≡ file_question bytes.now }
+        ensures refuses { IfErr result Refuses }
+        ensures opened { IfOk result (λ f. f.bytes ≡ bytes.entry) }
+    {
+        if BYTES < bytes.len() {
+            return Err(Reason::FileTooLong);
+        }
+        if is_sound(bytes) {
+            return Ok(ShowFile { bytes });
+        }
+        Err(Reason::HeaderUnsound)
     }
-    if is_sound(file) {
-        return 0;
+
+    pub fn part_count(&self) -> usize
+        ensures { result ≡ part_count self.now.bytes.now }
+    {
+        part_count(self.bytes)
     }
-    24
+
+    // The bytes of part `k`.
+    pub fn part(&self, k: usize) -> &'a [u8]
+        requires { k < part_count self.now.bytes.now }
+        ensures { result.now ≡ part_of self.now.bytes.now k }
+    {
+        let start = offset_of(self.bytes, k);
+        let end = end_of(self.bytes, k);
+        &self.bytes[start..end]
+    }
 }

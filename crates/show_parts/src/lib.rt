@@ -2,42 +2,56 @@
 // them without their fields, and whoever lists a part reads it with them.
 #![tactic(auto)]
 
-ghost use Rattle.std.specs.Prelude.{◌≤◌, ◌<◌, take};
+ghost use Rattle.std.specs.Prelude.{◌<◌, [], false};
+ghost use Rattle.rules.specs.Answer.{Answered};
 ghost use Rattle.scene.specs.Scene.{SceneAnswered};
-ghost use Rattle.update.specs.Update.{UpdateAnswered};
 ghost use Rattle.book.specs.Book.{packet_of, book_scene, book_reading};
-ghost use Rattle.show_header.specs.Header.{HeaderSound, part_count, part_of};
+ghost use Rattle.show_header.specs.Header.{part_count, part_of};
+ghost use Rattle.show_parts.specs.Parts.{packet};
 
 use position::PositionSyntax;
+use rules::Answer;
 use scene::SceneAnswer;
-use update::UpdateAnswer;
+use show_header::ShowFile;
 
 // Part 0, a scene, from its bit `offset` on.
-pub fn scene_part(file: &[u8], offset: usize, recording: bool, words: &mut [u64]) -> SceneAnswer
-    requires { HeaderSound file.now }
-    ensures { SceneAnswered (book_scene (packet_of (part_of file.now 0) offset recording words.old)) recording words.old result words.new }
+pub fn scene_part(
+    file: &ShowFile<'_>,
+    offset: usize,
+    recording: bool,
+    words: &mut [u64],
+) -> SceneAnswer
+    ensures { SceneAnswered (book_scene (packet_of (part_of file.now.bytes.now 0) offset recording words.old)) recording words.old result words.new }
 {
-    let start = show_header::offset_of(file, 0);
-    let end = show_header::end_of(file, 0);
-    scene::read_scene(&file[start..end], offset, recording, words)
+    scene::read_scene(file.part(0), offset, recording, words)
 }
 
 // Part `k`, an update, from its bit `offset` on.
 pub fn update_part(
-    file: &[u8],
+    file: &ShowFile<'_>,
     k: usize,
     offset: usize,
     recording: bool,
     words: &mut [u64],
-    shapes: [PositionSyntax; 63],
-    count: usize,
-) -> UpdateAnswer
-    requires header_sound { HeaderSound file.now }
-    requires k_bound { k < part_count file.now }
-    requires count_bound { count ≤ 63 }
-    ensures { UpdateAnswered (book_reading (packet_of (part_of file.now k) offset recording words.old) (take count shapes)) count shapes recording words.old result words.new }
+    shapes: &mut [PositionSyntax],
+) -> Answer
+    requires { k < part_count file.now.bytes.now }
+    ensures { Answered (book_reading (packet_of (part_of file.now.bytes.now k) offset recording words.old) shapes.old) shapes.old recording words.old result shapes.new words.new }
 {
-    let start = show_header::offset_of(file, k);
-    let end = show_header::end_of(file, k);
-    update::graph_update(&file[start..end], offset, recording, words, shapes, count)
+    lent::graph_update(file.part(k), offset, recording, words, shapes)
+}
+
+// Part 0 as the show reads it.
+pub fn show_scene(file: &ShowFile<'_>) -> SceneAnswer
+    ensures { SceneAnswered (book_scene (packet file.now.bytes.now 0)) false [] result [] }
+{
+    scene_part(file, 0, false, &mut [])
+}
+
+// Part `k`, an update, as the show reads it.
+pub fn show_update(file: &ShowFile<'_>, k: usize, shapes: &mut [PositionSyntax]) -> Answer
+    requires { k < part_count file.now.bytes.now }
+    ensures { Answered (book_reading (packet file.now.bytes.now k) shapes.old) shapes.old false [] result shapes.new [] }
+{
+    update_part(file, k, 0, false, &mut [], shapes)
 }

@@ -2,66 +2,58 @@
 // those of a speaker with `q`.
 #![tactic(auto)]
 
-ghost use Rattle.std.specs.Prelude.{◌<◌, ◌^◌};
+ghost use Rattle.std.specs.Prelude.{◌+◌, ◌*◌, ◌<◌, ◌^◌};
+ghost use Rattle.rules.specs.Name.{third};
 ghost use Rattle.parser.specs.Met.{Met};
-ghost use Rattle.speakers.specs.Speakers.{speaker_type, speaker, speakers, layout, labelled_layout};
+ghost use Rattle.speakers.specs.Speakers.{speaker_type, speaker, layout, labelled_layout};
 
 use parser::{Parser, tri};
-use rules::{Field, Reason, leaf};
+use rules::{Field, Names, Reason, leaf};
 
 // Kind 9: the value and type of a speaker.
-fn speaker_type(parser: &mut Parser<'_>, q: u64) -> Result<(), Reason>
-    requires { q < 2 ^ 51 }
-    ensures { Met (speaker_type q) parser.old result parser.new }
+fn speaker_type(parser: &mut Parser<'_>, q: Names<51>) -> Result<(), Reason>
+    ensures { Met (speaker_type q.word) parser.old result parser.new }
 {
-    tri!(common::number(parser, q + leaf::SPEAKER_VALUE_ENCODED, 7));
-    common::number(parser, q + leaf::SPEAKER_TYPE, 3)
+    tri!(common::number(parser, q.word + leaf::SPEAKER_VALUE_ENCODED, 7));
+    common::number(parser, q.word + leaf::SPEAKER_TYPE, 3)
 }
 
-// One speaker.
-fn speaker(parser: &mut Parser<'_>, q: u64) -> Result<(), Reason>
-    requires { q < 2 ^ 51 }
-    ensures { Met (speaker q) parser.old result parser.new }
+// Speaker `i`.
+fn speaker(parser: &mut Parser<'_>, p: Names<38>, i: u64) -> Result<(), Reason>
+    requires { i < 2 ^ 8 }
+    ensures { Met (speaker (p.word + third * i)) parser.old result parser.new }
 {
+    let q = Names {
+        word: p.word + Field::THIRD * i,
+    };
     let widths: [usize; 3] = [4, 9, 8];
-    tri!(parser.passive_values(q + leaf::SPEAKER_ENCODED, Field::FOURTH, &widths));
+    tri!(parser.passive_values(q.word + leaf::SPEAKER_ENCODED, Field::FOURTH, &widths));
     tri!(common::number_unless(
         parser,
-        q + leaf::SPEAKER_DEFAULT_DISTANCE,
-        q + leaf::SPEAKER_DISTANCE_ENCODED,
+        q.word + leaf::SPEAKER_DEFAULT_DISTANCE,
+        q.word + leaf::SPEAKER_DISTANCE_ENCODED,
         4
     ));
     speaker_type(parser, q)
 }
 
-// So many speakers.
-fn speakers(parser: &mut Parser<'_>, p: u64, n: u64) -> Result<(), Reason>
-    requires p_bound { p < 2 ^ 38 }
-    requires n_bound { n < 2 ^ 8 }
-    ensures { Met (speakers p n) parser.old result parser.new }
-{
-    for i in 0..n {
-        tri!(speaker(parser, p + Field::THIRD * i));
-    }
-    Ok(())
-}
-
 // A layout of speakers.
-fn layout(parser: &mut Parser<'_>, p: u64) -> Result<(), Reason>
-    requires { p < 2 ^ 38 }
-    ensures { Met (layout p) parser.old result parser.new }
+fn layout(parser: &mut Parser<'_>, p: Names<38>) -> Result<(), Reason>
+    ensures { Met (layout p.word) parser.old result parser.new }
 {
-    tri!(parser.take(p + leaf::LAYOUT_ENCODED, 4));
-    let n = tri!(parser.drc_count(p + leaf::SPEAKER_COUNT, 8, 33));
-    speakers(parser, p, n)
+    tri!(parser.take(p.word + leaf::LAYOUT_ENCODED, 4));
+    let n = tri!(parser.drc_count(p.word + leaf::SPEAKER_COUNT, 8, 33));
+    parser.each(n, |parser, i| speaker(parser, p, i))
 }
 
 // A resource, a label and a layout.
-pub fn labelled_layout(parser: &mut Parser<'_>, p: u64) -> Result<(), Reason>
-    requires { p < 2 ^ 38 }
-    ensures { Met (labelled_layout p) parser.old result parser.new }
+pub fn labelled_layout(parser: &mut Parser<'_>, p: Names<38>) -> Result<(), Reason>
+    ensures { Met (labelled_layout p.word) parser.old result parser.new }
 {
-    tri!(common::metadata_resource(parser, p + leaf::RESOURCE));
-    tri!(parser.label(p + leaf::LABEL));
+    let resource = Names {
+        word: p.word + leaf::RESOURCE,
+    };
+    tri!(common::metadata_resource(parser, resource));
+    tri!(parser.label(p.word + leaf::LABEL));
     layout(parser, p)
 }

@@ -42,6 +42,17 @@ decimal_more n some h =
     ap (λ (b : Bool). pick b [] (decimal_within 19 (n / 10)) ++ (digit (n % 10) ∷ [])) (le-ltb n 10 some)
     ∙ ap (λ (l : List ℕ). l ++ (digit (n % 10) ∷ [])) (sym (spare 18 (n / 10) (omega arith)))
 
+-- in one: the last digit, and what stands before it
+abbrev pub tens : ℕ → List ℕ
+tens n = pick (ltb n 10) [] (decimal (n / 10))
+
+pub decimal_last : (n : ℕ) → n < 2 ^ 64 → decimal n ≡ tens n ++ (digit (n % 10) ∷ [])
+decimal_last n h = go (ltb n 10) refl
+  where
+    go : (b : Bool) → ltb n 10 ≡ b → decimal n ≡ pick b [] (decimal (n / 10)) ++ (digit (n % 10) ∷ [])
+    go true e = let few = ltb-true n 10 e in let same : n % 10 ≡ n = omega arith in rw same (decimal_few n few)
+    go false e = decimal_more n (let some = ltb-false n 10 e in omega arith) h
+
 -- a number below 10 to the power of `k` has at most `k` digits, at least one
 before : (b : Bool) (l : List ℕ) (n k : ℕ) → ltb n 10 ≡ b → n < 10 ^ suc k → ((j : ℕ) → k ≡ suc j → length l ≤ k) → length (pick b [] l) ≤ k
 before true l n k e h again = omega arith

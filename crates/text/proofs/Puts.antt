@@ -1,10 +1,10 @@
 -- Texts put one after the other.
 use Prim.Native.Nat.{ℕ, suc, ◌+◌, ◌≤◌}
 use mathlib.Core.Path.{◌≡◌, refl, sym, ap, ◌∙◌}
-use mathlib.Core.List.{List, [], ◌∷◌, ◌++◌, append-nil}
+use mathlib.Core.List.{List, [], ◌∷◌, ◌++◌}
 use native.Mathlib.Omega.{arith}
 use native.Mathlib.Nat.{add-zero}
-use lib.ListN.{length, length-append, set, take, drop, drop_of_length-le}
+use lib.ListN.{length, length-append, set, take, drop}
 use lib.Seq.{take-set-le, drop-set-lt, sets, sets-eq, length-sets, take_at}
 use Rattle.rules.proofs.Words.{sets_append}
 use Rattle.text.specs.Text.{Put}
@@ -33,14 +33,6 @@ put_front {before} {text} p h =
     let e : 0 + length text ≡ length text = omega arith in
     rw (p.bytes, p.place, e, sets-eq text before 0 (omega arith)) (take_at text (drop (0 + length text) before) (length text) refl)
 
--- and is all that stands there if it is as long as the bytes
-pub put_whole : {before text : List ℕ} {to : ℕ} {after : List ℕ} → Put before 0 text to after → length text ≡ length before → after ≡ text
-put_whole {before} {text} p h =
-    p.bytes
-    ∙ sets-eq text before 0 (omega arith)
-    ∙ ap (λ (l : List ℕ). text ++ l) (drop_of_length-le before (omega arith))
-    ∙ append-nil text
-
 -- and the bytes before a text and after it are as they were
 sets_before : (l : List ℕ) (i : ℕ) (vs : List ℕ) (n : ℕ) → n ≤ i → take n (sets l i vs) ≡ take n l
 sets_before l i [] n h = refl
@@ -56,43 +48,6 @@ put_before {before} {at} {text} p = ap (take at) p.bytes ∙ sets_before before 
 pub put_after : {before : List ℕ} {at : ℕ} {text : List ℕ} {to : ℕ} {after : List ℕ} → Put before at text to after → drop to after ≡ drop to before
 put_after {before} {at} {text} {to} p = ap (drop to) p.bytes ∙ sets_after before at text to (omega (arith, p.place))
 
--- no text, and one byte
+-- no text
 pub put_none : {before : List ℕ} {at : ℕ} → Put before at [] at before
 put_none {at = at} = record { place = sym (add-zero at); bytes = refl }
-
-pub put_byte : (before : List ℕ) (at c : ℕ) → Put before at (c ∷ []) (at + 1) (set before at c)
-put_byte before at c = record { place = refl; bytes = refl }
-
--- What is still to be put, in a loop: with it the bytes are as with the whole text.
-pub record PutLeft (before : List ℕ) (at : ℕ) (whole : List ℕ) (now : List ℕ) (to : ℕ) (rest : List ℕ) : Type 0 where
-  pub place : to + length rest ≡ at + length whole
-  pub bytes : sets now to rest ≡ sets before at whole
-  pub long : length now ≡ length before
-
-pub all_left : {before : List ℕ} {at : ℕ} {whole : List ℕ} → PutLeft before at whole before at whole
-all_left = record { place = refl; bytes = refl; long = refl }
-
-module _ {before : List ℕ} {at : ℕ} {whole now : List ℕ} {to : ℕ} where
-  pub less_left : {a rest : List ℕ} {r : ℕ} {l : List ℕ} → PutLeft before at whole now to (a ++ rest) → Put now to a r l → PutLeft before at whole l r rest
-  less_left {a} {rest} x p = record {
-    place = let e = length-append a rest in let f = p.place in let g = x.place in omega arith;
-    bytes = rw (p.bytes, p.place) (sym (sets_append now to a rest) ∙ x.bytes);
-    long = put_long p ∙ x.long;
-  }
-
-  -- there is room for the next text
-  pub room_left : (a rest : List ℕ) → PutLeft before at whole now to (a ++ rest) → at + length whole ≤ length before → to + length a ≤ length now
-  room_left a rest x h = let e = length-append a rest in let f = x.place in let g = x.long in omega arith
-
-  -- and for all that is left, with which the whole text is put
-  pub room_last : {rest : List ℕ} → PutLeft before at whole now to rest → at + length whole ≤ length before → to + length rest ≤ length now
-  room_last x h = let f = x.place in let g = x.long in omega arith
-
-  pub put_last : {rest : List ℕ} {r : ℕ} {l : List ℕ} → PutLeft before at whole now to rest → Put now to rest r l → Put before at whole r l
-  put_last x p = record { place = p.place ∙ x.place; bytes = p.bytes ∙ x.bytes }
-
-  pub none_left : PutLeft before at whole now to [] → Put before at whole to now
-  none_left x = record { place = let e = x.place in omega arith; bytes = x.bytes }
-
--- texts put one after the other, and the room for each
-pub ruleset puts = (put_both, room_first, room_next)

@@ -1,15 +1,14 @@
--- What a test of every row tells, and the rows that stand one after the other in a list of bytes.
-use Prim.Native.Nat.{ℕ, zero, suc, ◌+◌, ◌*◌, ◌<◌, ◌≤◌}
+-- What a test of every row tells.
+use Prim.Native.Nat.{ℕ, zero, suc, ◌+◌, ◌<◌, ◌≤◌}
 use Prim.Native.String.{String}
-use mathlib.Core.Path.{◌≡◌, refl, ap, sym, ◌∙◌}
-use mathlib.Core.List.{List, [], ◌∷◌, ◌++◌}
+use mathlib.Core.Path.{◌≡◌, refl, ap}
+use mathlib.Core.List.{List, [], ◌∷◌}
 use mathlib.Core.Bool.{Bool, true, false, ◌&&◌}
 use native.Mathlib.Omega.{arith}
 use native.Mathlib.Nat.{add-zero}
-use borrow.Author.Tests.{eqb-true, leb-true, leb-false}
+use borrow.Author.Tests.{leb-true, leb-false}
 use lib.Dec.{eqb, leb}
-use lib.ListN.{length, length-append, get_or, take, drop, get_or-eq_default}
-use lib.Seq.{take_at, drop_at, drop-drop}
+use lib.ListN.{length, get_or, get_or-eq_default}
 use Rattle.rules.specs.Rule.{pick}
 use Rattle.rules.proofs.Laws.{both}
 use Rattle.text.specs.Text.{ascii}
@@ -52,45 +51,6 @@ abbrev pub last_row : (List ℕ → Bool) → ℕ → ℕ → List String → �
 last_row f n found [] = found
 last_row f n found (s ∷ ss) = last_row f (suc n) (pick (f (ascii s)) n found) ss
 
--- the rows one after the other, each of 59 bytes
-unfoldable pub row_bytes : List String → List ℕ
-row_bytes [] = []
-row_bytes (s ∷ ss) = ascii s ++ row_bytes ss
-
+-- a row of 59 bytes
 abbrev pub wide : List ℕ → Bool
 wide r = eqb (length r) 59
-
-cut : (i : ℕ) (table : List String) (n : ℕ) (d : String) → every (λ _. wide) i table ≡ true → n < length table →
-    take 59 (drop (59 * n) (row_bytes table)) ≡ ascii (get_or table n d)
-unfolding row_bytes
-cut i [] n d t h = absurd (omega arith)
-cut i (s ∷ ss) zero d t h = take_at (ascii s) (row_bytes ss) 59 (eqb-true _ _ (both (wide (ascii s)) t).0)
-cut i (s ∷ ss) (suc n) d t h =
-    let e : 59 * suc n ≡ 59 + 59 * n = omega arith in
-    let past = drop_at (ascii s) (row_bytes ss) 59 (eqb-true _ _ (both (wide (ascii s)) t).0) in
-    ap (λ (k : ℕ). take 59 (drop k (ascii s ++ row_bytes ss))) e
-    ∙ ap (take 59) (sym (drop-drop (59 * n) 59 (ascii s ++ row_bytes ss)) ∙ ap (drop (59 * n)) past)
-    ∙ cut (suc i) ss n d (both (wide (ascii s)) t).1 (omega arith)
-
-bytes_long : (i : ℕ) (table : List String) → every (λ _. wide) i table ≡ true → length (row_bytes table) ≡ 59 * length table
-unfolding row_bytes
-bytes_long i [] t = refl
-bytes_long i (s ∷ ss) t =
-    let first = eqb-true (length (ascii s)) 59 (both (wide (ascii s)) t).0 in
-    let rest = bytes_long (suc i) ss (both (wide (ascii s)) t).1 in
-    rw (length-append (ascii s) (row_bytes ss)) (omega arith)
-
--- what a table gives for a number: its row, or row 0 if there are too few bytes for it
-pub cut_row : (table : List String) (n : ℕ) → every (λ _. wide) 0 table ≡ true → 0 < length table →
-    take 59 (drop (pick (leb (59 * n + 59) (length (row_bytes table))) (59 * n) 0) (row_bytes table)) ≡ row table n
-unfolding row
-cut_row table n t some = go (leb (59 * n + 59) (length (row_bytes table))) refl
-  where
-    long : length (row_bytes table) ≡ 59 * length table
-    long = bytes_long 0 table t
-
-    go : (b : Bool) → leb (59 * n + 59) (length (row_bytes table)) ≡ b → take 59 (drop (pick b (59 * n) 0) (row_bytes table)) ≡ ascii (get_or table n (get_or table 0 ""))
-    go true e = let z = leb-true (59 * n + 59) (length (row_bytes table)) e in cut 0 table n _ t (omega (arith, long))
-    go false e =
-        let z = leb-false (59 * n + 59) (length (row_bytes table)) e in
-        rw (row_past table n (omega (arith, long))) (cut 0 table 0 "" t some)

@@ -1,2 +1,3 @@
 pub mod Text
 pub mod Table
+pub mod Writer

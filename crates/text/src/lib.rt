@@ -1,11 +1,11 @@
-// Text put into bytes that the caller lends, at a place where there is room for it. No function of the kit is called: the crate
-// `linked` needs the link of every function that is, and the kit keeps those of its own to itself.
+// Text put into bytes that the caller lends, in which there is room for it. No function of the kit is called: the crate `linked` needs
+// the link of every function that is, and the kit keeps those of its own to itself.
 #![tactic(auto)]
 
 pub mod table;
 
-ghost use Rattle.std.specs.Prelude.{◌+◌, ◌≤◌, ◌<◌, [], ◌∷◌, ◌++◌, length};
-ghost use Rattle.text.specs.Text.{digit, decimal, Put};
+ghost use Rattle.std.specs.Prelude.{◌≡◌, ◌≤◌, [], ◌∷◌, ◌++◌, length};
+ghost use Rattle.text.specs.Text.{decimal, newline};
 
 use rules::Outcome;
 
@@ -20,64 +20,85 @@ pub struct TextAnswer {
 // The bytes that are lent for a line of a listing: enough for every field and every outcome.
 pub const LINE: usize = 256;
 
-// Puts a text, and gives the place after it.
-pub fn put(out: &mut [u8], at: usize, text: &[u8]) -> usize
-    requires { at + length text.now ≤ length out.old }
-    ensures { Put out.old at text.now result out.new }
-{
-    let mut i = 0;
-    while i < text.len() {
-        out[at + i] = text[i];
-        i += 1;
+// Bytes that a caller lends for a text, and how many of them are written.
+#[derive(Drop)]
+pub struct Writer<'a> {
+    out: &'a mut [u8],
+    written: usize,
+    ghost written_in: { written ≤ length out.now },
+}
+
+impl<'a> Writer<'a> {
+    ghost use Rattle.text.specs.Writer.{Fits, Wrote, Lent};
+
+    // At the beginning of the bytes.
+    pub fn new(out: &'a mut [u8]) -> Writer<'a>
+        ensures { Lent out.entry result }
+    {
+        Writer { out, written: 0 }
     }
-    at + text.len()
-}
 
-// Puts a digit.
-fn put_digit(out: &mut [u8], at: usize, d: u64) -> usize
-    requires room { at < length out.old }
-    requires one_digit { d < 10 }
-    ensures { Put out.old at (digit d ∷ []) result out.new }
-{
-    out[at] = b'0' + d as u8;
-    at + 1
-}
-
-// Puts a number in decimal.
-pub fn put_decimal(out: &mut [u8], at: usize, n: u64) -> usize
-    requires { at + length (decimal n) ≤ length out.old }
-    ensures { Put out.old at (decimal n) result out.new }
-{
-    if n < 10 {
-        return put_digit(out, at, n);
+    // How long the text is so far.
+    pub fn length(&self) -> usize
+        ensures { result ≡ self.now.written }
+    {
+        self.written
     }
-    let last = put_decimal(out, at, n / 10);
-    put_digit(out, last, n % 10)
-}
 
-// Puts a word and the number after it.
-pub fn put_number(out: &mut [u8], at: usize, word: &[u8], n: u64) -> usize
-    requires { at + length (word.now ++ decimal n) ≤ length out.old }
-    ensures { Put out.old at (word.now ++ decimal n) result out.new }
-{
-    let number = put(out, at, word);
-    put_decimal(out, number, n)
-}
+    // Puts a byte.
+    pub fn put_byte(&mut self, byte: u8)
+        requires { Fits (byte ∷ []) self.old }
+        ensures { Wrote (byte ∷ []) self.old self.new }
+    {
+        self.out[self.written] = byte;
+        self.written += 1;
+    }
 
-// Puts the last word of a line, with the number after it, and ends the line.
-pub fn put_last(out: &mut [u8], at: usize, word: &[u8], n: u64) -> usize
-    requires { at + length ((word.now ++ decimal n) ++ (10 ∷ [])) ≤ length out.old }
-    ensures { Put out.old at ((word.now ++ decimal n) ++ (10 ∷ [])) result out.new }
-{
-    let end = put_number(out, at, word, n);
-    put(out, end, b"\n")
-}
+    // Puts a text.
+    pub fn put(&mut self, text: &[u8])
+        requires { Fits text.now self.old }
+        ensures { Wrote text.now self.old self.new }
+    {
+        for byte in text {
+            self.put_byte(*byte);
+        }
+    }
 
-// Puts the last two.
-pub fn put_two(out: &mut [u8], at: usize, first: &[u8], m: u64, last: &[u8], n: u64) -> usize
-    requires { at + length ((first.now ++ decimal m) ++ ((last.now ++ decimal n) ++ (10 ∷ []))) ≤ length out.old }
-    ensures { Put out.old at ((first.now ++ decimal m) ++ ((last.now ++ decimal n) ++ (10 ∷ []))) result out.new }
-{
-    let next = put_number(out, at, first, m);
-    put_last(out, next, last, n)
+    // Puts a number in decimal.
+    pub fn put_decimal(&mut self, n: u64)
+        requires { Fits (decimal n) self.old }
+        ensures { Wrote (decimal n) self.old self.new }
+    {
+        if n >= 10 {
+            self.put_decimal(n / 10);
+        }
+        self.put_byte(b'0' + (n % 10) as u8);
+    }
+
+    // Puts a word and the number after it.
+    pub fn put_number(&mut self, word: &[u8], n: u64)
+        requires { Fits (word.now ++ decimal n) self.old }
+        ensures { Wrote (word.now ++ decimal n) self.old self.new }
+    {
+        self.put(word);
+        self.put_decimal(n);
+    }
+
+    // Puts the last word of a line, with the number after it, and ends the line.
+    pub fn put_last(&mut self, word: &[u8], n: u64)
+        requires { Fits ((word.now ++ decimal n) ++ newline) self.old }
+        ensures { Wrote ((word.now ++ decimal n) ++ newline) self.old self.new }
+    {
+        self.put_number(word, n);
+        self.put_byte(b'\n');
+    }
+
+    // Puts the last two.
+    pub fn put_two(&mut self, first: &[u8], m: u64, last: &[u8], n: u64)
+        requires { Fits ((first.now ++ decimal m) ++ ((last.now ++ decimal n) ++ newline)) self.old }
+        ensures { Wrote ((first.now ++ decimal m) ++ ((last.now ++ decimal n) ++ newline)) self.old self.new }
+    {
+        self.put_number(first, m);
+        self.put_last(last, n);
+    }
 }

@@ -4,14 +4,14 @@
 ghost use Rattle.std.specs.Prelude.{◌≡◌, ℕ, ◌≤◌, ◌<◌, length, get_or, take};
 ghost use Rattle.rules.specs.Answer.{input_of, entry_then};
 ghost use Rattle.parser.specs.Met.{Met, giving};
-ghost use Rattle.parser.specs.Begun.{IsRefusal, asked};
+ghost use Rattle.rules.specs.Reason.{IsRefusal, asked};
 ghost use Rattle.position.specs.Shape.{default};
 ghost use Rattle.position.specs.Formed.{Shaped};
 ghost use Rattle.update.specs.Update.{all_shaped, graph_update, shapes_question, update_reading, Entered, UpdateGiven};
 
 use parser::{Parser, tri};
 use position::PositionSyntax;
-use rules::{Answer, Outcome, Reason};
+use rules::{Answer, Reason};
 
 // Whether no shape has a precision above 24.
 fn all_shaped(shapes: &[PositionSyntax]) -> bool
@@ -75,8 +75,6 @@ pub fn read_update(
     ensures { UpdateGiven (update_reading (input_of bytes.now recording words.old) offset count (take count shapes.old)) count shapes.old recording words.old result shapes.new words.new }
 {
     let mut parser = Parser::new(bytes, words, recording, 0);
-    match entered(&mut parser, offset, shapes, count) {
-        Ok(()) => parser.answer(Outcome::Read),
-        Err(reason) => parser.answer(Outcome::from(reason)),
-    }
+    let ended = entered(&mut parser, offset, shapes, count);
+    parser.answer(ended)
 }

@@ -1,18 +1,15 @@
 -- What validation says of shapes meets its rule.
-use mathlib.Core.Path.{◌≡◌, refl, sym, ◌∙◌}
-use mathlib.Core.Bool.{true, false}
+use mathlib.Core.Path.{◌≡◌, refl}
 use mathlib.Core.List.{List}
-use borrow.Author.Tests.{eq-eqb}
-use lib.Dec.{eqb}
 use Rattle.std.specs.Prelude as std
 use Rattle.std.specs.Prelude.{Ok, Err}
 use Rattle.rules.specs.declared.reason.Reason.{Reason}
 use Rattle.rules.proofs.Numbered.{numbered}
 use Rattle.rules.specs.Derived.{demand}
-use Rattle.rules.specs.Rule.{Rule, done, ends, ◌>>=◌}
+use Rattle.rules.specs.Rule.{Rule, done, ◌>>=◌}
 use Rattle.parser.specs.declared.Parser.{Parser}
 use Rattle.parser.specs.Met.{Met, giving}
-use Rattle.parser.specs.Begun.{IsRefusal, asked}
+use Rattle.rules.specs.Reason.{IsRefusal, asked}
 use Rattle.parser.proofs.Laws.{first, ended_first, last}
 use Rattle.parser.proofs.Steps.{ends_now}
 use Rattle.position.specs.declared.PositionSyntax.{PositionSyntax}
@@ -24,12 +21,18 @@ unfolding validate_graph demand
 validated_met shapes (Ok u) e h = rw (← e) last
 validated_met shapes (Err z) e h = rw (← e, numbered z) (ends_now h)
 
--- and so do shapes that are validated after the last of them is read: `y` is what validation says
+-- shapes of which a rule is asked after the last of them is read
+module _ {r : Rule (List PositionSyntax)} {p q u : Parser} {x : std.Result (List PositionSyntax) Reason} (asked : List PositionSyntax → Rule (Unit {0})) (m : Met r p x q) where
+  pub then_asked : {shapes : List PositionSyntax} (y : std.Result (Unit {0}) Reason) → x ≡ Ok shapes → Met (asked shapes) q y u →
+      Met (r >>= (λ shapes. asked shapes >>= (λ _. done shapes))) p (giving shapes y) u
+  then_asked (Ok a) e n = first _ m e (first _ n refl last)
+  then_asked (Err z) e n = first _ m e (ended_first _ n refl)
+
+-- and so do shapes that are validated after them: `y` is what validation says
 module _ {r : Rule (List PositionSyntax)} {p q : Parser} {x : std.Result (List PositionSyntax) Reason} (m : Met r p x q) where
   pub valid_after : {shapes : List PositionSyntax} (y : std.Result (Unit {0}) Reason) → x ≡ Ok shapes → asked y ≡ verdict (parents shapes) → IsRefusal y →
       Met (r >>= if_valid) p (giving shapes y) q
-  valid_after {shapes} (Ok u) e n h = first _ m e (first _ (validated_met shapes (Ok u) n h) refl last)
-  valid_after {shapes} (Err z) e n h = first _ m e (ended_first _ (validated_met shapes (Err z) n h) refl)
+  valid_after {shapes} y e n h = then_asked validate_graph m y e (validated_met shapes y n h)
 
   pub valid_ended : {e : Reason} → x ≡ Err e → Met (r >>= if_valid) p (Err e) q
   valid_ended e = ended_first _ m e

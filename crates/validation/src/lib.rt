@@ -6,7 +6,7 @@ ghost use Rattle.rules.specs.Rule.{refused};
 ghost use Rattle.rules.specs.Reading.{reading};
 ghost use Rattle.rules.specs.Derived.{demand};
 ghost use Rattle.rules.specs.Answer.{answer_of};
-ghost use Rattle.parser.specs.Begun.{IsRefusal, asked};
+ghost use Rattle.rules.specs.Reason.{IsRefusal, asked};
 ghost use Rattle.ranks.specs.Rank.{verdict};
 ghost use Rattle.validation.specs.Validation.{parents, validation_reading, no_input};
 
@@ -20,8 +20,8 @@ pub fn parents_of(shapes: &[PositionSyntax]) -> [usize; 63]
     ensures { take (length shapes.now) result ≡ parents shapes.now }
 {
     let mut out = [0; 63];
-    for i in 0..shapes.len() {
-        out[i] = shapes[i].parent;
+    for (i, shape) in shapes.iter().enumerate() {
+        out[i] = shape.parent;
     }
     out
 }
@@ -41,12 +41,8 @@ fn answer(ended: Result<(), Reason>, position: usize) -> Answer
     requires { IsRefusal ended }
     ensures { result ≡ answer_of (reading no_input (demand (eqb (asked ended) 0) (refused (asked ended))) position position 0) }
 {
-    let outcome = match ended {
-        Ok(()) => Outcome::Read,
-        Err(reason) => Outcome::from(reason),
-    };
     Answer {
-        outcome,
+        outcome: Outcome::from(ended),
         position,
         fields: 0,
     }

@@ -1,11 +1,11 @@
-use Rattle.parser.proofs.Laws.{readings}
+use borrow.Author.Rules.{rules}
 use Rattle.bands.specs.Bands.{band_values}
 use Rattle.bands.proofs.band_values.Goals as goal
 
-pub returns-then-kind-eq1 : goal.returns-then-kind-eq1
+pub returns-in-CompactOrPrecise : goal.returns-in-CompactOrPrecise
 unfolding band_values
-returns-then-kind-eq1 c = search readings depth 14
+returns-in-CompactOrPrecise c = rw c.in-CompactOrPrecise.is (search rules)
 
-pub returns : goal.returns
+pub returns-in-AnglesAndGain : goal.returns-in-AnglesAndGain
 unfolding band_values
-returns c = search readings depth 14
+returns-in-AnglesAndGain c = rw c.in-AnglesAndGain.is (search rules)

@@ -5,7 +5,7 @@ use Rattle.code_tables.proofs.codeword.Goals as goal
 
 pub returns : goal.returns
 unfolding codeword
-returns c = search (readings, questions, ends_now) depth 14
+returns c = search (readings, questions) depth 14
 
 pub returns-then-width-gt64 : goal.returns-then-width-gt64
 unfolding codeword
@@ -13,8 +13,8 @@ returns-then-width-gt64 c = search (readings, questions, ends_now) depth 14
 
 pub returns-2 : goal.returns-2
 unfolding codeword
-returns-2 c = search (readings, questions, ends_now) depth 14
+returns-2 c = search (readings, questions) depth 14
 
 pub returns-3 : goal.returns-3
 unfolding codeword
-returns-3 c = search (readings, questions, ends_now) depth 14
+returns-3 c = search (readings, questions) depth 14

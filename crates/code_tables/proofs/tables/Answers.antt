@@ -1,5 +1,7 @@
-use Rattle.parser.proofs.Laws.{readings}
-use Rattle.code_tables.specs.Tables.{tables}
+use borrow.Author.Rules.{rules}
+use Rattle.parser.proofs.Laws.{readings, first}
+use Rattle.code_tables.specs.Kind.{number_of}
+use Rattle.code_tables.specs.Tables.{tables, table}
 use Rattle.code_tables.proofs.tables.Goals as goal
 
 pub returns : goal.returns
@@ -8,4 +10,4 @@ returns c = search readings depth 14
 
 pub returns-2 : goal.returns-2
 unfolding tables
-returns-2 c = search readings depth 14
+returns-2 c = first _ c.table_count.ensures.met (search rules) (c.each.ensures (table (number_of c.args.kind)) (λ i h p r q k. search rules))

@@ -6,4 +6,4 @@ use Rattle.common.proofs.reverb_parameters.Given as goal
 
 -- the parameters from `i` on are left to be read
 abbrev pub invariant-loop-i : goal.invariant-loop-i
-invariant-loop-i l = Left (reverb_parameters l.p l.from l.to) l.initial.parser (fold (λ k _. reverb_parameter l.p k) l.i (l.to - l.i) tt) l.parser
+invariant-loop-i l = Left (reverb_parameters l.p.word l.from l.to) l.initial.parser (fold (λ k _. reverb_parameter l.p.word k) l.i (l.to - l.i) tt) l.parser

@@ -1,25 +1,28 @@
-use Prim.Native.Nat.{◌<◌, ◌≤◌}
+use Prim.Native.Nat.{◌≤◌}
 use mathlib.Core.List.{[], ◌∷◌}
 use mathlib.Core.Path.{refl}
 use native.Mathlib.Omega.{arith}
 use types.Run.{OneOf}
-use Rattle.parser.proofs.Laws.{readings}
-use Rattle.parser.proofs.Choice.{chosen_three, chosen_last, below, past, but_first, choices}
+use Rattle.rules.specs.Derived.{choose}
+use Rattle.parser.proofs.Choice.{chosen_last, past}
 use Rattle.compression.specs.Compression.{contents}
 use Rattle.compression.proofs.contents.Goals as goal
 
 pub returns-in-0 : goal.returns-in-0
-unfolding contents
-returns-in-0 c = search (readings, choices) depth 14
+unfolding contents choose
+returns-in-0 c = rw c.in-0.is c.lzw.ensures
 
-pub returns-in-1-to-3 : goal.returns-in-1-to-3
-unfolding contents
-returns-in-1-to-3 c =
-    let read = c.padded_tables.ensures in
-    let other : OneOf (0 ∷ []) c.args.kind → ⊥ = assumption in
-    let less : c.args.kind < 4 = omega arith in
-    let of = but_first 0 1 (2 ∷ 3 ∷ []) _ other (below (0 ∷ 1 ∷ 2 ∷ 3 ∷ []) 4 _ (tt, (tt, (tt, (tt, tt)))) less) in
-    chosen_three _ _ of read read read
+pub returns-in-1 : goal.returns-in-1
+unfolding contents choose
+returns-in-1 c = rw c.in-1.is c.padded_tables.ensures
+
+pub returns-in-2 : goal.returns-in-2
+unfolding contents choose
+returns-in-2 c = rw c.in-2.is c.padded_tables-in-2.ensures
+
+pub returns-in-3 : goal.returns-in-3
+unfolding contents choose
+returns-in-3 c = rw c.in-3.is c.padded_tables-in-3.ensures
 
 pub returns-in_default : goal.returns-in_default
 unfolding contents

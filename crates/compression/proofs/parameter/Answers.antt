@@ -10,7 +10,7 @@ returns c = search readings depth 14
 
 pub returns-then-is_finite : goal.returns-then-is_finite
 unfolding parameter demand
-returns-then-is_finite c = search (readings, ends_now) depth 14
+returns-then-is_finite c = search readings depth 14
 
 pub returns-2 : goal.returns-2
 unfolding parameter demand

@@ -1,19 +1,23 @@
+use mathlib.Core.Path.{◌≡◌, refl}
+use mathlib.Core.Bool.{false}
+use lib.Dec.{eqb}
+use borrow.Author.Rules.{rules}
 use Rattle.parser.proofs.Laws.{readings}
-use Rattle.compression.specs.Compression.{parameter_if_present}
+use Rattle.code_tables.specs.declared.TableKind.{TableKind}
+use Rattle.code_tables.specs.declared.TableKind.TheVariants.{FirstProbabilities, SecondProbabilities, Codewords}
+use Rattle.code_tables.specs.Kind.{number_of}
+use Rattle.compression.specs.Compression.{parameter, parameter_if_present}
 use Rattle.compression.proofs.parameter_if_present.Goals as goal
 
-pub returns-then-kind-eq3 : goal.returns-then-kind-eq3
+not_codewords : {kind : TableKind} → (kind ≡ Codewords → ⊥) → eqb (number_of kind) 3 ≡ false
+not_codewords {kind = FirstProbabilities} h = refl
+not_codewords {kind = SecondProbabilities} h = refl
+not_codewords {kind = Codewords} h = absurd (h refl)
+
+pub returns-in-Codewords : goal.returns-in-Codewords
 unfolding parameter_if_present
-returns-then-kind-eq3 c = search readings depth 14
+returns-in-Codewords c = rw c.in-Codewords.is (search readings depth 14)
 
 pub returns : goal.returns
 unfolding parameter_if_present
-returns c = search readings depth 14
-
-pub returns-then-present : goal.returns-then-present
-unfolding parameter_if_present
-returns-then-present c = search readings depth 14
-
-pub returns-2 : goal.returns-2
-unfolding parameter_if_present
-returns-2 c = search readings depth 14
+returns c = rw (not_codewords c.in_default.not-Codewords) (c.if_flag.ensures parameter (λ p r q k. search rules))

@@ -1,15 +1,8 @@
-use Rattle.parser.proofs.Laws.{readings}
+use borrow.Author.Rules.{rules}
+use Rattle.renderer.specs.Renderer.{renderer_data}
 use Rattle.configuration.specs.Configuration.{data_if_present}
 use Rattle.configuration.proofs.data_if_present.Goals as goal
 
 pub returns : goal.returns
 unfolding data_if_present
-returns c = search readings depth 14
-
-pub returns-then-present : goal.returns-then-present
-unfolding data_if_present
-returns-then-present c = search readings depth 14
-
-pub returns-2 : goal.returns-2
-unfolding data_if_present
-returns-2 c = search readings depth 14
+returns c = c.if_flag.ensures (renderer_data c.args.i) (λ p r q k. search rules)

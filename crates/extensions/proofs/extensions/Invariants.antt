@@ -6,4 +6,4 @@ use Rattle.extensions.proofs.extensions.Given as goal
 
 -- the extensions from `i` on are left to be read
 abbrev pub invariant-loop-i : goal.invariant-loop-i
-invariant-loop-i l = Left (extensions 32 l.p) l.initial.parser (extensions (32 - l.i) (l.p + third * l.i)) l.parser
+invariant-loop-i l = Left (extensions 32 l.p.word) l.initial.parser (extensions (32 - l.i) (l.p.word + third * l.i)) l.parser

@@ -1,20 +1,19 @@
 use mathlib.Core.List.{◌++◌}
-use Rattle.text.proofs.Puts.{put_both, room_first, room_next}
+use Rattle.rules.specs.Words.{number_of}
+use Rattle.text.proofs.Puts.{room_first}
+use Rattle.text.proofs.Writes.{fits_next, wrote_both}
 use Rattle.text.specs.Text.{ascii, decimal}
 use Rattle.field_text.specs.FieldText.{unit, value_text}
 use Rattle.field_text.proofs.put_value.Goals as goal
 
-pub put_number-unit-requires : goal.put_number-unit-requires
+pub put_number-requires : goal.put_number-requires
 unfolding ascii value_text
-put_number-unit-requires c =
-    room_first _ (ascii " " ++ decimal c.number.result) (ascii (unit c.args.value)) (rw (← c.number.ensures) at c.requires)
+put_number-requires c = rw c.number.ensures (room_first _ (ascii " " ++ decimal (number_of c.args.value)) (ascii (unit c.args.value)) c.requires)
 
-pub put_unit-requires : goal.put_unit-requires
+pub put-requires : goal.put-requires
 unfolding ascii value_text
-put_unit-requires c =
-    room_next _ _ c.put_number-unit.ensures (rw (← c.number.ensures) at c.requires)
+put-requires c = rw c.unit.ensures (fits_next _ (ascii (unit c.args.value)) (rw c.number.ensures at c.put_number.ensures) c.requires)
 
 pub returns : goal.returns
 unfolding ascii value_text
-returns c =
-    rw (← c.number.ensures) (put_both c.put_number-unit.ensures c.put_unit.ensures)
+returns c = wrote_both (rw c.number.ensures at c.put_number.ensures) (rw c.unit.ensures at c.put.ensures)

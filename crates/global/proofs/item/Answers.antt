@@ -1,15 +1,13 @@
-use Rattle.parser.proofs.Laws.{readings}
+use Prim.Native.Nat.{◌+◌, ◌*◌}
+use mathlib.Core.List.{[], ◌∷◌}
+use borrow.Author.Rules.{rules}
+use Rattle.rules.specs.Name.{third, fourth}
+use Rattle.rules.specs.Leaf as leaf
+use Rattle.rules.specs.Derived.{passive_values}
 use Rattle.global.specs.Global.{item}
 use Rattle.global.proofs.item.Goals as goal
 
 pub returns : goal.returns
 unfolding item
-returns c = search readings depth 14
-
-pub returns-then-default : goal.returns-then-default
-unfolding item
-returns-then-default c = search readings depth 14
-
-pub returns-2 : goal.returns-2
-unfolding item
-returns-2 c = search readings depth 14
+returns c =
+    c.unless_flag.ensures (passive_values (c.args.p.word + leaf.item_encoded + third * c.args.i) fourth (7 ∷ 7 ∷ 7 ∷ 7 ∷ 7 ∷ [])) (λ p r q k. search rules)

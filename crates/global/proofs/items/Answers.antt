@@ -1,19 +1,7 @@
-use native.Mathlib.Nat.{sub-zero}
 use borrow.Author.Rules.{rules}
-use Rattle.parser.proofs.Left.{left_all}
-use Rattle.parser.proofs.Fold.{fold_more, fold_ended, fold_none}
-use Rattle.global.specs.Global.{items}
+use Rattle.global.specs.Global.{items, item}
 use Rattle.global.proofs.items.Goals as goal
 
-pub loop-i-init : goal.loop-i-init
-unfolding items
-loop-i-init c = rw sub-zero left_all
-
-pub returns-in-loop-i : goal.returns-in-loop-i
-returns-in-loop-i c = fold_ended _ _ _ _ c.loop-i.invariant c.loop-i-test.true c.item.ensures (search rules)
-
-pub loop-i-preserved : goal.loop-i-preserved
-loop-i-preserved c = fold_more _ _ _ _ c.loop-i.invariant c.loop-i-test.true c.item.ensures (search rules)
-
 pub returns : goal.returns
-returns c = fold_none _ _ _ _ c.loop-i.invariant c.loop-i-test.false
+unfolding items
+returns c = c.each.ensures (item c.args.p.word) (λ i h p r q k. search rules)

@@ -1,19 +1,11 @@
-use native.Mathlib.Nat.{sub-zero}
+use Prim.Native.Nat.{◌+◌, ◌*◌}
 use borrow.Author.Rules.{rules}
-use Rattle.parser.proofs.Left.{left_all}
-use Rattle.parser.proofs.Fold.{fold_more, fold_ended, fold_none}
+use Rattle.rules.specs.Name.{third}
+use Rattle.rules.specs.Leaf as leaf
+use Rattle.common.specs.Common.{number}
 use Rattle.headphones.specs.Headphones.{channels}
 use Rattle.headphones.proofs.channels.Goals as goal
 
-pub loop-i-init : goal.loop-i-init
-unfolding channels
-loop-i-init c = rw sub-zero left_all
-
-pub returns-in-loop-i : goal.returns-in-loop-i
-returns-in-loop-i c = fold_ended _ _ _ _ c.loop-i.invariant c.loop-i-test.true c.number.ensures (search rules)
-
-pub loop-i-preserved : goal.loop-i-preserved
-loop-i-preserved c = fold_more _ _ _ _ c.loop-i.invariant c.loop-i-test.true c.number.ensures (search rules)
-
 pub returns : goal.returns
-returns c = fold_none _ _ _ _ c.loop-i.invariant c.loop-i-test.false
+unfolding channels
+returns c = c.each.ensures (λ i. number (c.args.p.word + leaf.channels + third * i) 3) (λ i h p r q k. search rules)

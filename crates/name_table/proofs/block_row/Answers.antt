@@ -1,16 +1,11 @@
-use mathlib.Core.Path.{◌≡◌, refl, ◌∙◌}
-use mathlib.Core.Bool.{true}
-use native.Mathlib.Omega.{arith}
+use mathlib.Core.Path.{◌∙◌}
+use lib.ListN.{get_or}
+use Rattle.text.specs.Table.{row}
 use Rattle.text.specs.Text.{ascii}
-use Rattle.name_table.specs.Table.{blocks}
-use Rattle.text.proofs.Rows.{every, wide, row_bytes, cut_row}
+use Rattle.text.proofs.Slices.{each_row_at}
+use Rattle.name_table.specs.Table.{blocks, block_of}
 use Rattle.name_table.proofs.block_row.Goals as goal
 
--- every row has 59 bytes
-all_wide : every (λ _. wide) 0 blocks ≡ true
-unfolding blocks ascii
-all_wide = refl
-
 pub returns : goal.returns
-unfolding blocks row_bytes ascii
-returns c = c.row_or_first.ensures ∙ cut_row blocks _ all_wide (omega arith)
+unfolding blocks row ascii
+returns c = c.row_or_first.ensures ∙ each_row_at ascii blocks (block_of c.args.word) (get_or blocks 0 "")

@@ -1,5 +1,4 @@
 use borrow.Author.Rules.{rules}
-use native.Mathlib.Omega.{arith}
 use Rattle.position.specs.Shape.{default}
 use Rattle.positions.specs.Positions.{positions}
 use Rattle.positions.proofs.Loops.{reached_none, next_at, reached_more, reached_ended, reached_all}

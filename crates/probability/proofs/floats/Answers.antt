@@ -6,11 +6,11 @@ use Rattle.probability.proofs.floats.Goals as goal
 
 pub returns : goal.returns
 unfolding floats demand
-returns c = search (readings, ends_now) depth 14
+returns c = search readings depth 14
 
 pub returns-then-sum : goal.returns-then-sum
 unfolding floats demand
-returns-then-sum c = search (readings, ends_now) depth 14
+returns-then-sum c = search readings depth 14
 
 pub returns-2 : goal.returns-2
 unfolding floats demand

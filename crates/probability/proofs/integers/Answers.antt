@@ -6,7 +6,7 @@ use Rattle.probability.proofs.integers.Goals as goal
 
 pub returns : goal.returns
 unfolding integers demand
-returns c = search (readings, ends_now) depth 14
+returns c = search readings depth 14
 
 pub returns-then-sum-eq0 : goal.returns-then-sum-eq0
 unfolding integers demand
@@ -14,4 +14,4 @@ returns-then-sum-eq0 c = search (readings, ends_now) depth 14
 
 pub returns-2 : goal.returns-2
 unfolding integers demand
-returns-2 c = search (readings, ends_now) depth 14
+returns-2 c = search readings depth 14

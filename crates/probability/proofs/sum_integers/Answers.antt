@@ -1,16 +1,8 @@
 use Rattle.std.proofs.lemmas.Grind.{common_steps}
 use native.Mathlib.Omega.{arith}
-use native.Mathlib.Nat.{sub-zero}
 use borrow.Author.Rules.{rules}
-use Rattle.parser.proofs.Left.{left_all}
 use Rattle.parser.proofs.Fold.{fold_more, fold_ended, fold_none}
 use Rattle.probability.proofs.sum_integers.Goals as goal
-
-pub loop-j-init : goal.loop-j-init
-loop-j-init c = record { small = omega arith; left = rw sub-zero left_all }
-
-pub add_integer-requires-clause-sum_bound : goal.add_integer-requires-clause-sum_bound
-add_integer-requires-clause-sum_bound c = c.loop-j.invariant.small
 
 pub returns-in-loop-j : goal.returns-in-loop-j
 returns-in-loop-j c = fold_ended _ _ _ _ c.loop-j.invariant.left c.loop-j-test.true c.add_integer.ensures.met (search rules)

@@ -8,5 +8,5 @@ use Rattle.probability.proofs.sum_integers.Given as goal
 abbrev pub invariant-loop-j : goal.invariant-loop-j
 invariant-loop-j l = record {
   small : l.sum ≤ 2 ^ 32 * l.j;
-  left : Left (fold (add_integer l.q l.width) 0 l.n 0) l.initial.parser (fold (add_integer l.q l.width) l.j (l.n - l.j) l.sum) l.parser;
+  left : Left (fold (add_integer l.q.word l.width) 0 l.n 0) l.initial.parser (fold (add_integer l.q.word l.width) l.j (l.n - l.j) l.sum) l.parser;
 }

@@ -1,10 +1,10 @@
-use Prim.Native.Nat.{◌<◌, ◌≤◌}
+use Prim.Native.Nat.{◌≤◌}
 use native.Mathlib.Omega.{arith}
 use types.Run.{OneOf}
 use mathlib.Core.Path.{refl}
 use mathlib.Core.List.{[], ◌∷◌}
 use Rattle.parser.proofs.Laws.{readings}
-use Rattle.parser.proofs.Choice.{chosen_two, chosen_last, below, past, but_first, choices}
+use Rattle.parser.proofs.Choice.{chosen, chosen_last, past, choices}
 use Rattle.radiation.specs.Radiation.{pattern}
 use Rattle.radiation.proofs.pattern.Goals as goal
 
@@ -12,18 +12,17 @@ pub returns-in-0 : goal.returns-in-0
 unfolding pattern
 returns-in-0 c = search (readings, choices) depth 14
 
+pub returns-in-1 : goal.returns-in-1
+unfolding pattern
+returns-in-1 c = rw c.in-1.is (chosen _ _ refl c.bands.ensures)
+
+pub returns-in-2 : goal.returns-in-2
+unfolding pattern
+returns-in-2 c = rw c.in-2.is (chosen _ _ refl c.bands-in-2.ensures)
+
 pub returns-in-3 : goal.returns-in-3
 unfolding pattern
 returns-in-3 c = search (readings, choices) depth 14
-
-pub returns-in-1 : goal.returns-in-1
-unfolding pattern
-returns-in-1 c =
-    let read = c.bands.ensures in
-    let other : OneOf (0 ∷ []) c.args.kind → ⊥ = assumption in
-    let less : c.args.kind < 3 = omega arith in
-    let of = but_first 0 1 (2 ∷ []) _ other (below (0 ∷ 1 ∷ 2 ∷ []) 3 _ (tt, (tt, (tt, tt))) less) in
-    chosen_two _ _ of read read
 
 pub returns-in_default : goal.returns-in_default
 unfolding pattern

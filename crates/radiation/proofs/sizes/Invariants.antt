@@ -8,5 +8,5 @@ use Rattle.radiation.proofs.sizes.Given as goal
 abbrev pub invariant-loop-i : goal.invariant-loop-i
 invariant-loop-i l = record {
   small : l.entries ≤ 2 ^ 22 * l.i;
-  left : Left (sizes l.p l.count) l.initial.parser (fold (size l.p) l.i (l.count - l.i) l.entries) l.parser;
+  left : Left (sizes l.p.word l.count) l.initial.parser (fold (size l.p.word) l.i (l.count - l.i) l.entries) l.parser;
 }

@@ -1,10 +1,11 @@
 use borrow.Author.Rules.{rules}
+use Rattle.parser.proofs.Entered.{as_entry}
 use Rattle.parser.proofs.Laws.{first_unit, ended_first}
 use Rattle.scene.proofs.entered.Goals as goal
 
 pub returns : goal.returns
-returns c = record { met = ended_first _ c.entry.ensures (search rules); most = tt; others = tt }
+returns c = record { met = ended_first _ (as_entry _ _ _ tt c.entry.ensures) (search rules); most = tt; others = tt }
 
 pub returns-2 : goal.returns-2
 returns-2 c =
-    record { met = first_unit _ c.entry.ensures (search rules) c.scene_graph.ensures.met; most = c.scene_graph.ensures.most; others = c.scene_graph.ensures.others }
+    record { met = first_unit _ (as_entry _ _ _ tt c.entry.ensures) (search rules) c.scene_graph.ensures.met; most = c.scene_graph.ensures.most; others = c.scene_graph.ensures.others }

@@ -1,21 +1,22 @@
-use Rattle.text.proofs.Puts.{put_both, room_first, room_next}
-use Rattle.show_parts.proofs.Answers.{scene_fits}
+use mathlib.Core.Path.{sym}
+use Rattle.text.proofs.Puts.{room_first}
+use Rattle.text.proofs.Writes.{fits_next, wrote_both}
 use Rattle.show_lines.specs.Lines.{part_line}
-use Rattle.show.specs.Show.{rest_text}
-use Rattle.show.proofs.Texts.{parts_by_scene}
+use Rattle.show.proofs.Texts.{parts_by_scene, parts_read, parts_unread}
 use Rattle.show.proofs.put_parts.Goals as goal
 
-pub put_part-next-requires : goal.put_part-next-requires
-put_part-next-requires c =
-    let whole = parts_by_scene _ c.scene_part-a.ensures in
-    room_first 0 (part_line 0 _) (rest_text _ _ _) (rw whole at c.requires.file_in_bounds)
+pub put_part-requires : goal.put_part-requires
+put_part-requires c =
+    room_first _ (part_line _ _) _ (rw (parts_by_scene _ c.show_scene-scene.ensures) at c.requires)
 
-pub put_rest-requires : goal.put_rest-requires
-put_rest-requires c =
-    let whole = parts_by_scene _ c.scene_part-a.ensures in
-    let room = room_next (part_line 0 _) (rest_text _ _ _) c.put_part-next.ensures (rw whole at c.requires.file_in_bounds) in
-    record { header_sound = c.requires.header_sound; count_bound = scene_fits _ c.scene_part-a.ensures; shapes_in_bounds = room }
+pub put_updates-requires-clause-room : goal.put_updates-requires-clause-room
+put_updates-requires-clause-room c =
+    let whole = parts_read _ c.show_scene-scene.ensures (sym c.if-is_read.ensures) in
+    fits_next (part_line _ _) _ c.put_part.ensures (rw whole at c.requires)
 
-pub returns : goal.returns
-returns c =
-    rw (parts_by_scene _ c.scene_part-a.ensures) (put_both c.put_part-next.ensures c.put_rest.ensures)
+pub returns-then-is_read : goal.returns-then-is_read
+returns-then-is_read c =
+    rw (parts_read _ c.show_scene-scene.ensures (sym c.if-is_read.ensures)) (wrote_both c.put_part.ensures c.put_updates.ensures)
+
+pub returns-else-is_read : goal.returns-else-is_read
+returns-else-is_read c = rw (parts_unread _ c.show_scene-scene.ensures (sym c.if-is_read.ensures)) c.put_part.ensures

@@ -1,32 +1,26 @@
-use lib.ListN.{take}
-use Rattle.text.proofs.Puts.{all_left, less_left, room_left, room_last, put_last}
+use Rattle.text.proofs.Puts.{room_first}
+use Rattle.text.proofs.Writes.{less_left}
 use Rattle.show_lines.specs.Lines.{part_line}
 use Rattle.show.proofs.Texts.{update_more, update_end}
 use Rattle.show.proofs.put_updates.Goals as goal
 
-pub loop-k-init : goal.loop-k-init
-loop-k-init c = all_left
-
-pub update_part-a-requires : goal.update_part-a-requires
-update_part-a-requires c =
-    record { header_sound = c.requires.header_sound; k_bound = rw (← c.part_count-parts.ensures) c.loop-k-test.true; count_bound = c.requires.count_bound }
-
-pub put_part-to-requires : goal.put_part-to-requires
-put_part-to-requires c =
-    let here = update_more _ _ _ (take c.args.count c.loop-k.next) c.loop-k-test.true c.update_part-a.ensures.answered in
-    room_left (part_line _ _) _ (rw here at c.loop-k.invariant) (rw (← c.part_count-parts.ensures) at c.requires.shapes_in_bounds)
+pub put_part-requires : goal.put_part-requires
+put_part-requires c =
+    let inside = rw c.part_count-k-end.ensures at c.loop-k-test.true in
+    let here = update_more _ _ _ c.loop-k.shapes inside c.show_update-answer.ensures in
+    room_first _ (part_line _ _) _ (rw here at c.loop-k.invariant.fits)
 
 pub loop-k-preserved : goal.loop-k-preserved
 loop-k-preserved c =
-    let here = update_more _ _ _ (take c.args.count c.loop-k.next) c.loop-k-test.true c.update_part-a.ensures.answered in
-    less_left (rw here at c.loop-k.invariant) c.put_part-to.ensures
+    let inside = rw c.part_count-k-end.ensures at c.loop-k-test.true in
+    let here = update_more _ _ _ c.loop-k.shapes inside c.show_update-answer.ensures in
+    less_left (part_line _ _) _ (rw here at c.loop-k.invariant) c.put_part.ensures
 
-pub put_shapes-requires : goal.put_shapes-requires
-put_shapes-requires c =
-    let left = rw (update_end _ _ _ _ c.loop-k-test.false) at c.loop-k.invariant in
-    record { count_bound = c.requires.count_bound; shapes_in_bounds = room_last left (rw (← c.part_count-parts.ensures) at c.requires.shapes_in_bounds) }
+pub put_shapes-requires-clause-room : goal.put_shapes-requires-clause-room
+put_shapes-requires-clause-room c =
+    rw (update_end _ _ _ _ (rw c.part_count-k-end.ensures at c.loop-k-test.false)) at c.loop-k.invariant.fits
 
 pub returns : goal.returns
 returns c =
-    let left = rw (update_end _ _ _ _ c.loop-k-test.false) at c.loop-k.invariant in
-    rw (← c.part_count-parts.ensures) (put_last left c.put_shapes.ensures)
+    let left = rw (update_end _ _ _ _ (rw c.part_count-k-end.ensures at c.loop-k-test.false)) at c.loop-k.invariant in
+    left.then c.put_shapes.ensures

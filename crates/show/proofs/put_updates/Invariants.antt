@@ -1,14 +1,13 @@
 use Prim.Native.Nat.{◌-◌}
-use lib.ListN.{take}
-use Rattle.text.proofs.Puts.{PutLeft}
+use Rattle.text.proofs.Writes.{Left}
+use Rattle.show_header.specs.Header.{part_count}
 use Rattle.show_parts.specs.Parts.{packets}
 use Rattle.show.specs.Show.{updates_text}
 use Rattle.show.proofs.put_updates.Given as goal
 
--- what is still to be put are the lines of the updates from part `k` on, and of the positions after them
+-- the lines of the updates from part `k` on, and of the positions after them, are still to be put
 abbrev pub invariant-loop-k : goal.invariant-loop-k
 invariant-loop-k l =
-    PutLeft l.initial.out l.at (updates_text 1 (packets l.file (l.parts - 1) 1) (take l.count l.initial.next)) l.out l.to (updates_text l.k (packets l.file (l.parts - l.k) l.k) (take l.count l.next))
-
-abbrev pub decreases-loop-k : goal.decreases-loop-k
-decreases-loop-k l = l.parts - l.k
+    let bytes = l.file.bytes.now in
+    let parts = part_count bytes in
+    Left (updates_text 1 (packets bytes (parts - 1) 1) l.initial.shapes) l.initial.writer (updates_text l.k (packets bytes (parts - l.k) l.k) l.shapes) l.writer

@@ -1,20 +1,16 @@
-use Rattle.show.proofs.Room.{room_read, answered_read, room_refused, answered_refused}
-use borrow.Author.Rules.{rules}
+use mathlib.Core.Path.{refl}
+use native.Mathlib.Omega.{arith}
+use Rattle.text.proofs.Writes.{lent_fits, lent_put}
+use Rattle.show.proofs.Room.{show_enough}
 use Rattle.show.proofs.show.Goals as goal
 
-pub put_parts-length-requires : goal.put_parts-length-requires
-put_parts-length-requires c =
-    let room = room_read _ c.args.text.now c.file_question-number.ensures (search rules) c.if-number-eq0.true in
-    record { header_sound = room.0; file_in_bounds = room.1 }
-
-pub returns-then-number-eq0 : goal.returns-then-number-eq0
-returns-then-number-eq0 c =
-    answered_read _ _ c.file_question-number.ensures (search rules) c.if-number-eq0.true c.put_parts-length.ensures
-
-pub put_refused-length-requires : goal.put_refused-length-requires
-put_refused-length-requires c =
-    room_refused _ c.args.text.now c.file_question-number.ensures (search rules)
+pub put_show-outcome-requires : goal.put_show-outcome-requires
+put_show-outcome-requires c = lent_fits c.new-writer.ensures _ (omega (arith, show_enough c.args.file.now, c.told-text))
 
 pub returns : goal.returns
-returns c =
-    answered_refused _ _ c.file_question-number.ensures (search rules) c.if-number-eq0.false c.put_refused-length.ensures
+returns c = record {
+  outcome = c.put_show-outcome.ensures.outcome;
+  position = refl;
+  text = rw c.length.ensures (lent_put c.new-writer.ensures c.put_show-outcome.ensures.text);
+  room = rw c.length.ensures c.put_show-outcome.new.writer.written_in;
+}

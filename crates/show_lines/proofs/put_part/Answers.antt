@@ -1,16 +1,16 @@
-use Rattle.text.proofs.Puts.{puts}
+use Rattle.text.proofs.Writes.{writes}
 use Rattle.text.specs.Text.{ascii, line}
 use Rattle.show_lines.specs.Lines.{part_line}
 use Rattle.show_lines.proofs.put_part.Goals as goal
 
-pub put_number-next-requires : goal.put_number-next-requires
+pub put_number-requires : goal.put_number-requires
 unfolding line ascii part_line
-put_number-next-requires c = search puts
+put_number-requires c = search writes
 
 pub put_told-requires : goal.put_told-requires
 unfolding line ascii part_line
-put_told-requires c = search puts
+put_told-requires c = search writes
 
 pub returns : goal.returns
 unfolding line ascii part_line
-returns c = search puts
+returns c = search writes

@@ -1,10 +1,10 @@
 use Prim.Native.Nat.{◌-◌}
 use lib.ListN.{length}
-use Rattle.text.proofs.Puts.{PutLeft}
+use Rattle.text.proofs.Writes.{Left}
 use Rattle.show_lines.specs.Lines.{position_lines}
 use Rattle.show_lines.proofs.put_positions.Given as goal
 
--- what is still to be put are the lines of the positions after `i`
+-- the lines of the positions after `i` are still to be put
 abbrev pub invariant-loop-i : goal.invariant-loop-i
 invariant-loop-i l =
-    PutLeft l.initial.out l.at (position_lines l.parents (length l.parents) 0) l.out l.to (position_lines l.parents (length l.parents - l.i) l.i)
+    Left (position_lines l.parents (length l.parents) 0) l.initial.writer (position_lines l.parents (length l.parents - l.i) l.i) l.writer

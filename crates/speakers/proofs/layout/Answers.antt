@@ -1,5 +1,8 @@
+use Prim.Native.Nat.{◌+◌, ◌*◌}
+use borrow.Author.Rules.{rules}
+use Rattle.rules.specs.Name.{third}
 use Rattle.parser.proofs.Laws.{readings}
-use Rattle.speakers.specs.Speakers.{layout}
+use Rattle.speakers.specs.Speakers.{speaker, speakers, layout}
 use Rattle.speakers.proofs.layout.Goals as goal
 
 pub returns : goal.returns
@@ -11,5 +14,7 @@ unfolding layout
 returns-2 c = search readings depth 14
 
 pub returns-3 : goal.returns-3
-unfolding layout
-returns-3 c = search readings depth 14
+unfolding layout speakers
+returns-3 c =
+    let each = c.each.ensures (λ i. speaker (c.args.p.word + third * i)) (λ i h p r q k. search rules) in
+    search readings depth 14

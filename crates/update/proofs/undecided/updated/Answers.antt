@@ -1,6 +1,4 @@
-use mathlib.Core.Path.{ap}
 use borrow.Author.Rules.{rules}
-use Rattle.parser.specs.Met.{giving}
 use Rattle.update.specs.Update.{graph_update, update_fields}
 use Rattle.validation.proofs.Asked.{valid_after, valid_ended}
 use Rattle.update.proofs.undecided.updated.Goals as goal
