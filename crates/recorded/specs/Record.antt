@@ -6,6 +6,7 @@ use Rattle.std.specs.Io.KnownBytes.{Consumes}
 use Rattle.rules.specs.declared.Answer.{Answer}
 use Rattle.rules.specs.declared.Outcome.{Outcome}
 use Rattle.rules.specs.declared.Outcome.TheVariants.{Read, Refused, Stopped}
+use Rattle.text.specs.declared.TextAnswer.{TextAnswer}
 use Rattle.position.specs.declared.PositionSyntax.{PositionSyntax}
 use Rattle.recorded.specs.declared.Kind.{Kind}
 use Rattle.recorded.specs.declared.Kind.TheVariants.{Reading, Name, Show}
@@ -73,6 +74,10 @@ bytes_of (Some head) = head.0
 -- so many of the bytes are those that the input had next, and it has them no more
 abbrev pub BeginsWithNext : Option (List ℕ) → Option (List ℕ) → List ℕ → Type 0
 BeginsWithNext before after bytes = (n : ℕ) × (n ≤ length bytes) × Consumes before after (take n bytes)
+
+-- the answer of a text, whose length stands in the place of the fields
+abbrev pub text_answer : TextAnswer → Answer
+text_answer a = record { outcome = a.outcome; position = a.position; fields = a.length }
 
 -- a value of so many bytes, of which the first are those that the input had next
 abbrev pub NextIs : {T : Type 0} → ℕ → (List ℕ → T) → Option (List ℕ) → Option (List ℕ) → T → Type 0

@@ -2,9 +2,9 @@
 // a text, and whether what a call answered and left is that. `oracle/README.md` says how a record is laid out.
 #![tactic(auto)]
 
-ghost use Rattle.std.specs.Prelude.{◌≡◌, ◌≤◌, ℕ, List, Some, IfOk, IsTrue, ◌==◌, slice_index, length, take, nat_eq};
+ghost use Rattle.std.specs.Prelude.{◌≡◌, ◌≤◌, ◌↔◌, ℕ, List, Some, IfOk, IsTrue, ◌==◌, slice_index, length, take, nat_eq};
 ghost use Rattle.std.specs.Io.KnownBytes.{Consumes};
-ghost use Rattle.recorded.specs.Record.{number_of, Decodes, field_of, outcome_from, answer_in, blanks, blank_word, are_blank, bytes_of, BeginsWithNext, NextIs, shape_of};
+ghost use Rattle.recorded.specs.Record.{number_of, Decodes, field_of, outcome_from, answer_in, blanks, blank_word, are_blank, bytes_of, BeginsWithNext, NextIs, shape_of, text_answer};
 
 use position::PositionSyntax;
 use rules::{Answer, Outcome};
@@ -87,7 +87,9 @@ pub fn next_bytes<const N: usize, R: Read>(input: &mut R) -> [u8; N]
 }
 
 // A derived `==` of answers and of shapes would call functions of the kit in crates of which `linked` needs every link.
-fn same_answer(one: Answer, other: Answer) -> bool {
+fn same_answer(one: Answer, other: Answer) -> bool
+    ensures { IsTrue result ↔ (one ≡ other) }
+{
     let same = match (one.outcome, other.outcome) {
         (Outcome::Read, Outcome::Read) => true,
         (Outcome::Refused(number), Outcome::Refused(recorded)) => number == recorded,
@@ -97,7 +99,9 @@ fn same_answer(one: Answer, other: Answer) -> bool {
     same && one.position == other.position && one.fields == other.fields
 }
 
-pub fn same_shape(one: PositionSyntax, other: PositionSyntax) -> bool {
+pub fn same_shape(one: PositionSyntax, other: PositionSyntax) -> bool
+    ensures { IsTrue result ↔ (one ≡ other) }
+{
     one.parent_dynamic == other.parent_dynamic
         && one.range_dynamic == other.range_dynamic
         && one.position_precision == other.position_precision
@@ -211,7 +215,9 @@ impl Head {
     }
 
     // Whether an answer is the recorded one.
-    pub fn agrees(&self, answer: Answer) -> bool {
+    pub fn agrees(&self, answer: Answer) -> bool
+        ensures { IsTrue result ↔ (answer_in self.now.0 ≡ Some answer) }
+    {
         match self.answer() {
             Some(recorded) => same_answer(recorded, answer),
             None => false,
@@ -365,6 +371,7 @@ pub fn same_shapes<R: Read>(
 // Whether a text, put into bytes that were blank, and its answer are as recorded. The record has the text's length in the
 // place of the fields.
 pub fn text_agrees<R: Read>(input: &mut R, head: &Head, answer: TextAnswer, bytes: &[u8]) -> bool
+    ensures answer { IsTrue result → (answer_in head.now.0 ≡ Some (text_answer answer)) }
     ensures others { let n = field_of head.now.0 30 34 in IsTrue result → IsTrue (are_blank nat_eq (λ _. 165) n bytes.now) }
 {
     let same = is_recorded(input, bytes, head.fields());
