@@ -72,6 +72,10 @@ wrong scene 0 0
 wrong metadata 0 0
 wrong part 1 0 0
 wrong scene part 1
+# One that is too long for a word or a number stays in its place, as none.
+wrong part "${digits:0:40}" 1
+wrong part 1 "${digits:0:40}"
+wrong part "${digits:0:40}" ""
 for number in "" " " x 1x x1 0x1 1e1 - -1 +1 1.0 1,000 " 1" "1 " "1 0" $'1\n' $'\n1' $'\xb9' '*' \
   0000000000000000001 1000000000000000000 18446744073709551616 "$digits" "$letters"; do
   wrong scene "$number"
