@@ -59,7 +59,11 @@ impl Case {
         put("args", format!("{}\n", self.arguments).as_bytes())?;
         put("in", &self.input)?;
         put("out", self.printed.as_bytes())?;
-        let lines: String = self.report.lines().map(|line| format!("{line}\n")).collect();
+        let lines: String = self
+            .report
+            .lines()
+            .map(|line| format!("{line}\n"))
+            .collect();
         put("report", lines.as_bytes())
     }
 }

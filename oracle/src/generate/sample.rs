@@ -1,26 +1,39 @@
 //! The sample of requests that is stored in the repository.
+use super::Part;
 use super::batch::{Batch, Record};
-use super::boundaries::{examples, extended_graphs, extended_position, fullest, shapes};
-use super::corners::corners;
-use super::labels::few_labels;
-use super::limits::limits;
-use super::positions::{EXTENSIONS, alone, scene, scene_of, shapes_of, update, update_of};
-use super::scripts::some_script;
-use super::validation::{every_list, some_list};
+use super::drafts::metadata;
+use super::drafts::positions::{EXTENSIONS, alone, scene, scene_of, shapes_of, update, update_of};
+use super::drafts::scripts::some_script;
+use super::fixed::boundaries::{examples, extended_graphs, extended_position, fullest, shapes};
+use super::fixed::corners::corners;
+use super::fixed::labels::labelled;
+use super::fixed::names::{AMPLE, greatest, length};
+use super::fixed::scripts::limits;
+use super::fixed::shows::{filled, small as small_shows};
+use super::fixed::validations::every_list;
+use super::random::names::{beyond, known, some_room};
+use super::random::readings::{of_fields, one_of_each, small};
+use super::random::shows::short_show;
+use super::random::validations::some_list;
 use super::variants::Good;
-use super::{metadata, of_fields, one_of_each, small};
 use crate::driver::GREATEST_COUNT;
+use crate::names::templates;
 use crate::record::record;
 use crate::request::Request;
 use crate::rng::Rng;
+use crate::show::GREATEST_FILE;
 use std::slice;
 
-/// About how large the records are: of scripts, of the drafts of each reading, of validations and
-/// of metadata.
+/// In the order in which they draw from the seed.
+pub const PARTS: [Part; 5] = [scripts, readings, metadata, names, shows];
+
+/// About how large the records are: of scripts, of the drafts of each reading, of validations, of
+/// metadata and of random shows.
 const SCRIPTS: usize = 390_000;
 const DRAFTS: usize = 180_000;
 const VALIDATIONS: usize = 80_000;
 const METADATA: usize = 600_000;
+const SHOWS: usize = 120_000;
 
 /// Records of more bytes are mostly replaced by such without fields.
 const LONG: usize = 400;
@@ -34,7 +47,7 @@ const SHORT: usize = 160;
 type Drafted = fn(&mut Rng) -> Good;
 
 /// All limits, a few labels, and small scripts as long as they fit.
-pub fn scripts(batch: &mut Batch<'_>) {
+fn scripts(batch: &mut Batch<'_>) {
     limits(batch);
     few_labels(batch);
     for _ in 0..6 {
@@ -49,8 +62,24 @@ pub fn scripts(batch: &mut Batch<'_>) {
     });
 }
 
+/// A few labels, short and around their limit.
+fn few_labels(batch: &mut Batch<'_>) {
+    for length in [0, 1, 3] {
+        let script = labelled(batch.rng, length);
+        for cut in (0..=script.bits.len()).step_by(3) {
+            batch.cut_at(&script, cut);
+        }
+        batch.rooms_near(&script);
+    }
+    for (length, lead) in [(4_095, 1), (4_096, 6), (4_097, 3)] {
+        let script = labelled(batch.rng, length);
+        batch.at(&script, lead, Record::Ample);
+        batch.cut_at(&script, script.bits.len() - 17);
+    }
+}
+
 /// Scenes, updates, positions and validations.
-pub fn readings(batch: &mut Batch<'_>) {
+fn readings(batch: &mut Batch<'_>) {
     examples(batch);
     shapes(batch);
     extensions(batch);
@@ -66,7 +95,7 @@ pub fn readings(batch: &mut Batch<'_>) {
 }
 
 /// Metadata: its corners, every kind of part, and drafts as long as they fit.
-pub fn metadata(batch: &mut Batch<'_>) {
+fn metadata(batch: &mut Batch<'_>) {
     let from = batch.requests.len();
     few_corners(batch);
     for _ in 0..2 {
@@ -104,8 +133,43 @@ fn short_metadata(rng: &mut Rng) -> Good {
     }
 }
 
+/// Every template with enough bytes and with one too few, and unknown words.
+fn names(batch: &mut Batch<'_>) {
+    for template in templates() {
+        let word = template.word(greatest(template));
+        batch.name(word, length(word));
+        batch.name(word, length(word) - 1);
+        let word = known(batch.rng, template);
+        batch.name(word, AMPLE);
+    }
+    for _ in 0..60 {
+        let word = beyond(batch.rng);
+        let room = some_room(batch.rng, word);
+        batch.name(word, room);
+    }
+    for word in [0, u64::MAX] {
+        batch.name(word, AMPLE);
+    }
+    for _ in 0..20 {
+        let word = batch.rng.next();
+        batch.name(word, AMPLE);
+    }
+}
+
+/// The fixed ones, but of the large files two only, and short random ones.
+fn shows(batch: &mut Batch<'_>) {
+    small_shows().into_iter().for_each(|file| batch.show(file));
+    batch.show(filled(GREATEST_FILE));
+    batch.show(filled(GREATEST_FILE + 1));
+    let from = batch.requests.len();
+    fill(batch, from, SHOWS, |batch| {
+        let show = short_show(batch.rng);
+        batch.show(show);
+    });
+}
+
 /// Asks on until the requests from that one on take so many bytes.
-pub fn fill(batch: &mut Batch<'_>, from: usize, bytes: usize, ask: impl Fn(&mut Batch<'_>)) {
+fn fill(batch: &mut Batch<'_>, from: usize, bytes: usize, ask: impl Fn(&mut Batch<'_>)) {
     let mut size = stored_size(&batch.requests[from..]);
     while size < bytes {
         let before = batch.requests.len();

@@ -1,9 +1,10 @@
 //! Document 01's boundary list, and what holds of all that is generated.
 use super::batch::Batch;
-use super::draft::drafted;
-use super::positions::{EXTENSIONS, write_largest};
+use super::drafts::positions::{EXTENSIONS, write_largest};
+use super::drafts::{drafted, metadata, renderer};
+use super::random::readings;
 use super::variants::Good;
-use super::{FIXED, Part, RANDOM, lists, metadata, renderer, show_limits, shows, words};
+use super::{Part, fixed, random};
 use crate::answer::{Answer, Outcome};
 use crate::driver::{answer, read};
 use crate::names;
@@ -96,7 +97,7 @@ fn requests(part: Part) -> Vec<Request> {
 
 #[test]
 fn lines_can_be_read_back() {
-    for part in FIXED.into_iter().chain(RANDOM).skip(1) {
+    for part in fixed::PARTS.into_iter().chain(random::PARTS).skip(1) {
         for request in requests(part).iter().step_by(7) {
             let line = request.to_string();
             assert_eq!(Request::parse(&line).as_ref(), Ok(request), "{line}");
@@ -108,7 +109,9 @@ fn lines_can_be_read_back() {
 fn sample() -> Vec<Request> {
     let rng = &mut Rng::new(1);
     let mut batch = Batch::new(rng);
-    super::SAMPLE.iter().for_each(|part| part(&mut batch));
+    super::sample::PARTS
+        .iter()
+        .for_each(|part| part(&mut batch));
     batch.requests
 }
 
@@ -164,9 +167,9 @@ fn recorded_templates(requests: impl IntoIterator<Item = Request>) -> BTreeSet<u
 #[test]
 fn every_template_is_recorded() {
     let parts: [Part; 3] = [
-        super::scenes_and_updates,
-        super::each_kind,
-        super::configurations,
+        readings::scenes_and_updates,
+        readings::each_kind,
+        readings::configurations,
     ];
     let generated = parts.into_iter().flat_map(requests).step_by(7);
     assert_eq!(recorded_templates(generated), every_template());
@@ -184,14 +187,14 @@ fn asked_templates(requests: &[Request], number: u8) -> BTreeSet<u64> {
 
 #[test]
 fn every_template_is_asked_for_its_text() {
-    let (generated, stored) = (requests(words::every_template), sample());
+    let (generated, stored) = (requests(fixed::names::every_template), sample());
     for (requests, numbers) in [(generated, [0, 25, 26].as_slice()), (stored, &[0, 26])] {
         for &number in numbers {
             let asked = asked_templates(&requests, number);
             assert_eq!(asked, every_template(), "{number}");
         }
     }
-    let pairs = requests(words::every_pair);
+    let pairs = requests(fixed::names::every_pair);
     assert_eq!(asked_templates(&pairs, 0), every_template());
     assert!(asked_templates(&pairs, 25).is_disjoint(&every_template()));
 }
@@ -259,21 +262,23 @@ fn shown(request: &Request) -> Option<Shown> {
 
 /// The shows that are generated, and those of the sample.
 static SHOWS: LazyLock<[Vec<Shown>; 2]> = LazyLock::new(|| {
-    let generated = [shows::fixed, shows::random].map(requests).concat();
+    let generated = [fixed::shows::fixed, random::shows::random]
+        .map(requests)
+        .concat();
     [generated, sample()].map(|requests| requests.iter().filter_map(shown).collect())
 });
 
 #[test]
 fn fixed_shows() {
-    for file in show_limits::unsound() {
+    for file in fixed::shows::unsound() {
         let number = crate::show::answer(&file).verdict.number;
         assert_eq!(number, 24, "{file:x?}");
     }
-    for file in show_limits::sound() {
+    for file in fixed::shows::sound() {
         let outcome = crate::show::answer(&file).verdict.outcome;
         assert_eq!(outcome, Outcome::Read, "{file:x?}");
     }
-    for (i, (file, number)) in show_limits::large().iter().enumerate() {
+    for (i, (file, number)) in fixed::shows::large().iter().enumerate() {
         assert_eq!(crate::show::answer(file).verdict.number, *number, "{i}");
     }
 }
@@ -282,8 +287,8 @@ fn fixed_shows() {
 #[test]
 fn fixed_shows_and_lists_take_no_random_numbers() {
     let rng = &mut Rng::new(1);
-    shows::fixed(&mut Batch::new(rng));
-    lists::fixed(&mut Batch::new(rng));
+    fixed::shows::fixed(&mut Batch::new(rng));
+    fixed::lists::fixed(&mut Batch::new(rng));
     assert_eq!(rng.next(), Rng::new(1).next());
 }
 
@@ -351,14 +356,14 @@ static LISTS: LazyLock<Vec<(List, Vec<Answer>)>> = LazyLock::new(|| {
         Request::List(list) => Some((list.clone(), answer(&request).packets)),
         _ => None,
     };
-    let requests = requests(lists::random).into_iter();
+    let requests = requests(random::lists::random).into_iter();
     requests.filter_map(listed).collect()
 });
 
 #[test]
 fn lists_reach_every_number() {
     let mut table = Table::default();
-    let fixed = requests(lists::fixed);
+    let fixed = requests(fixed::lists::fixed);
     for answer in fixed.iter().map(answer) {
         table.count(&answer).expect("an answer");
     }

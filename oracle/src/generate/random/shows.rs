@@ -1,13 +1,12 @@
-//! Show files: the fixed ones, and random scenes followed by updates of their shapes.
-use super::batch::Batch;
-use super::noise::noisy;
-use super::packets::{scene_of_some, some_packets};
-use super::positions::scene;
-use super::sample::fill;
-use super::show_limits::{File, Packet, file, filled, large, small, with_offset};
-use super::variants::Good;
+//! Show files: random scenes followed by updates of their shapes.
+use crate::generate::batch::Batch;
+use crate::generate::drafts::noisy;
+use crate::generate::drafts::packets::{scene_of_some, some_packets};
+use crate::generate::drafts::positions::scene;
+use crate::generate::fixed::shows::{File, Packet, file, with_offset};
+use crate::generate::variants::Good;
 use crate::rng::Rng;
-use crate::show::{GREATEST_FILE, GREATEST_PARTS, header_length};
+use crate::show::{GREATEST_PARTS, header_length};
 
 /// How many random shows are asked for: of few parts, of many parts, of many positions.
 const ROUNDS: usize = 4_000;
@@ -17,16 +16,10 @@ const WIDE_ROUNDS: usize = 150;
 /// The most updates of a show of few parts.
 const FEW: u64 = 12;
 
-/// About how large the records of the sample's random shows are, and the most bytes of such a show.
-const STORED: usize = 120_000;
+/// The most bytes of a short show.
 const SHORT: usize = 400;
 
 type Drafted = fn(&mut Rng) -> Good;
-
-pub fn fixed(batch: &mut Batch<'_>) {
-    small().into_iter().for_each(|file| batch.show(file));
-    large().into_iter().for_each(|(file, _)| batch.show(file));
-}
 
 pub fn random(batch: &mut Batch<'_>) {
     let most = GREATEST_PARTS as u64 - 1;
@@ -43,19 +36,7 @@ pub fn random(batch: &mut Batch<'_>) {
     }
 }
 
-/// For the sample: the fixed ones, but of the large files two only, and short random ones.
-pub fn few(batch: &mut Batch<'_>) {
-    small().into_iter().for_each(|file| batch.show(file));
-    batch.show(filled(GREATEST_FILE));
-    batch.show(filled(GREATEST_FILE + 1));
-    let from = batch.requests.len();
-    fill(batch, from, STORED, |batch| {
-        let show = short_show(batch.rng);
-        batch.show(show);
-    });
-}
-
-fn short_show(rng: &mut Rng) -> File {
+pub fn short_show(rng: &mut Rng) -> File {
     loop {
         let updates = rng.within(0..=6);
         let show = some_show(rng, scene, updates);

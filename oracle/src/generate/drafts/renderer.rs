@@ -1,5 +1,5 @@
 //! Drafts of renderer parameters.
-use super::draft::Draft;
+use super::Draft;
 use super::metadata::{of_kind, write_default_payload, write_resource};
 use super::positions::write_position;
 use crate::bits::Bits;

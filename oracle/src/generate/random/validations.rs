@@ -1,27 +1,12 @@
-//! Validation called alone: every small list of parents, and large ones at random.
-use super::batch::Batch;
-use super::positions::{some_parents, some_shape};
+//! Validation called alone, of lists of parents that are mostly sound.
 use crate::driver::GREATEST_COUNT;
+use crate::generate::batch::Batch;
+use crate::generate::drafts::positions::{some_parents, some_shape};
+use crate::generate::fixed::validations::hung;
 use crate::request::Shape;
 use crate::rng::Rng;
 
 const ROUNDS: usize = 6_000;
-
-pub fn small(batch: &mut Batch<'_>) {
-    every_list(batch, 4);
-}
-
-/// Every list of up to so many parents, each up to one more than the count.
-pub fn every_list(batch: &mut Batch<'_>, most: usize) {
-    for count in 0..=most {
-        let base = count + 2;
-        for index in 0..base.pow(count as u32) {
-            let digit = |i: usize| index / base.pow(i as u32) % base;
-            let at = batch.rng.below(100);
-            batch.validation(at, (0..count).map(digit).map(hung).collect());
-        }
-    }
-}
 
 pub fn random(batch: &mut Batch<'_>) {
     (0..ROUNDS).for_each(|_| some_list(batch));
@@ -49,13 +34,6 @@ fn some_count(rng: &mut Rng) -> usize {
         _ => rng.within(0..=10),
     };
     count as usize
-}
-
-fn hung(parent: usize) -> Shape {
-    Shape {
-        parent,
-        ..Shape::default()
-    }
 }
 
 /// Any shape: validation doesn't look at precisions, and parents may be of any size.

@@ -1,9 +1,8 @@
 //! Drafts of metadata configurations.
-use super::draft::{Draft, drafted};
 use super::positions::write_position;
-use super::variants::Good;
-use super::{compression, renderer};
+use super::{Draft, compression, drafted, renderer};
 use crate::bits::Bits;
+use crate::generate::variants::Good;
 use crate::request::{Question, Shape};
 use crate::rng::Rng;
 

@@ -1,5 +1,5 @@
 //! Drafts of compression configurations.
-use super::draft::{Draft, drafted};
+use super::{Draft, drafted};
 use crate::bits::Bits;
 use crate::rng::Rng;
 

@@ -3,10 +3,11 @@
 //!
 //! They take nothing from the random numbers of a batch, so that no other request depends on them.
 use super::boundaries::{bytes, fullest};
-use super::draft::{Draft, drafted};
-use super::positions::{EXTENSIONS, write_extensions};
 use crate::bits::Bits;
 use crate::driver::GREATEST_COUNT;
+use crate::generate::batch::Batch;
+use crate::generate::drafts::positions::{EXTENSIONS, write_extensions};
+use crate::generate::drafts::{Draft, drafted};
 use crate::rng::Rng;
 use crate::show::{COUNT_BYTES, GREATEST_FILE, GREATEST_PARTS, OFFSET_BYTES, header_length};
 use std::slice;
@@ -36,6 +37,11 @@ const COUNTS: [&str; 12] = [
 /// Bits of the type of an extension, and of its greatest length.
 const TYPE_BITS: usize = 4;
 const LENGTH_BITS: usize = 19;
+
+pub fn fixed(batch: &mut Batch<'_>) {
+    small().into_iter().for_each(|file| batch.show(file));
+    large().into_iter().for_each(|(file, _)| batch.show(file));
+}
 
 /// A file of these parts. Its header is sound, unless there are too many.
 pub fn file(parts: &[Packet]) -> File {

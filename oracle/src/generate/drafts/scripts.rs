@@ -1,9 +1,8 @@
-//! Random scripts: the parser's own methods, called in any order.
-use super::batch::Batch;
-use super::noise::noisy;
-use super::variants::Good;
+//! Scripts: the parser's own methods, called in any order.
+use super::noisy;
 use crate::bits::Bits;
 use crate::driver::answer;
+use crate::generate::variants::Good;
 use crate::request::{Call, Question, Request};
 use crate::rng::Rng;
 use crate::script::makes_field;
@@ -28,24 +27,6 @@ pub const WIDTHS: [[u32; 3]; 12] = [
     [1, 0, 3],
     [16, 16, 16],
 ];
-
-/// Random scripts with what can be made of each.
-pub fn scripts(batch: &mut Batch<'_>) {
-    for _ in 0..3_000 {
-        let script = some_script(batch.rng, 8);
-        batch.around(&script);
-    }
-    for _ in 0..100 {
-        let script = some_script(batch.rng, 8);
-        batch.every_cut(&script);
-        batch.rooms_near(&script);
-    }
-    for _ in 0..60 {
-        let script = some_script(batch.rng, 5);
-        batch.every_room(&script);
-        batch.every_offset(&script);
-    }
-}
 
 /// Where a script stands: its place, the end of its window, the end of the input.
 struct State {

@@ -1,10 +1,10 @@
 //! A scene and packets that update its shapes: valid, damaged, cut, random, closing a circle, hung on
 //! a parent that is not declared.
-use super::noise::noisy;
+use super::noisy;
 use super::positions::{scene_of, update, update_to};
-use super::variants::Good;
 use crate::answer::Outcome;
 use crate::driver::{GREATEST_COUNT, read};
+use crate::generate::variants::Good;
 use crate::request::{Input, Question, Shape};
 use crate::rng::Rng;
 use std::ops::RangeInclusive;

@@ -1,7 +1,8 @@
 //! Bytes at random: uniform, mostly zeros, mostly ones.
-use super::batch::Batch;
-use super::positions::{some_shape, some_shapes};
 use crate::bits::Bits;
+use crate::generate::batch::Batch;
+use crate::generate::drafts::noisy;
+use crate::generate::drafts::positions::{some_shape, some_shapes};
 use crate::request::{Input, Question};
 use crate::rng::Rng;
 
@@ -29,15 +30,6 @@ pub fn noise(batch: &mut Batch<'_>) {
             batch.call(&question, Input { offset, bytes }, record);
         }
     }
-}
-
-/// At most so many bytes, with ones as frequent as chance has it.
-pub fn noisy(rng: &mut Rng, most: u64) -> Bits {
-    let ones = rng.pick(&[50, 50, 50, 10, 90, 0, 100]);
-    let length = 8 * rng.below(most + 1);
-    let mut bits = Bits::default();
-    (0..length).for_each(|_| bits.push(rng.percent(ones)));
-    bits
 }
 
 /// Half of the time, a configuration that is present, without compression.

@@ -1,7 +1,16 @@
-//! A guided bit writer: structures are written field by field, what is free is chosen at random.
+//! Inputs for both folders of parts. Structures are written field by field, and what is free in them
+//! is drawn from the seed.
+pub mod compression;
+pub mod metadata;
+pub mod packets;
+pub mod positions;
+pub mod renderer;
+pub mod scripts;
+
 use crate::bits::Bits;
 use crate::rng::Rng;
 
+/// A structure that is being written.
 pub struct Draft<'r> {
     pub rng: &'r mut Rng,
     bits: Bits,
@@ -15,6 +24,15 @@ pub fn drafted(rng: &mut Rng, write: impl FnOnce(&mut Draft<'_>)) -> Bits {
     };
     write(&mut draft);
     draft.bits
+}
+
+/// At most so many bytes, with ones as frequent as chance has it.
+pub fn noisy(rng: &mut Rng, most: u64) -> Bits {
+    let ones = rng.pick(&[50, 50, 50, 10, 90, 0, 100]);
+    let length = 8 * rng.below(most + 1);
+    let mut bits = Bits::default();
+    (0..length).for_each(|_| bits.push(rng.percent(ones)));
+    bits
 }
 
 impl Draft<'_> {

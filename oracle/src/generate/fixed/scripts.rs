@@ -1,8 +1,8 @@
 //! Scripts that meet each limit of the parser's methods exactly, or miss it by one.
-use super::batch::{Batch, Record};
-use super::scripts::WIDTHS;
 use crate::bits::Bits;
 use crate::driver::FIELD_WORDS;
+use crate::generate::batch::{Batch, Record};
+use crate::generate::drafts::scripts::WIDTHS;
 use crate::request::{Input, Question};
 use crate::rng::Rng;
 use crate::script;

@@ -1,13 +1,12 @@
 //! The worked examples and the limits that document 01 names, met exactly and missed by one.
-use super::batch::{Batch, Record};
-use super::compression::{code_window, exact, flat_window, lzw_window, section};
-use super::draft::{Draft, drafted};
-use super::metadata::{self, Metadata, least_group, of_kind};
-use super::positions::{EXTENSIONS, some_shape, write_largest};
-use super::renderer;
-use super::variants::Good;
 use crate::bits::Bits;
 use crate::driver::{GREATEST_COUNT, GREATEST_INPUT, GREATEST_PRECISION};
+use crate::generate::batch::{Batch, Record};
+use crate::generate::drafts::compression::{code_window, exact, flat_window, lzw_window, section};
+use crate::generate::drafts::metadata::{self, Metadata, least_group, of_kind};
+use crate::generate::drafts::positions::{EXTENSIONS, some_shape, write_largest};
+use crate::generate::drafts::{Draft, drafted, renderer};
+use crate::generate::variants::Good;
 use crate::request::{Input, Question, Shape};
 use crate::rng::Rng;
 use crate::text::unhex;

@@ -1,16 +1,12 @@
 //! Lists: a scene and up to 200 packets that update its shapes, one after the other.
-use super::batch::{Batch, Record};
-use super::packets::{scene_of_some, some_packets};
-use super::show_limits::sound;
-use crate::bits::Bits;
-use crate::driver::{FIELD_WORDS, most_fields};
-use crate::request::{Input, List};
+use crate::generate::batch::{Batch, Record};
+use crate::generate::drafts::packets::{scene_of_some, some_packets};
+use crate::generate::fixed::lists::{MOST, enough, listed};
+use crate::request::List;
 use crate::rng::Rng;
-use crate::show::parts;
 use std::ops::RangeInclusive;
 
-/// The most updates of a list, and those of a short one.
-const MOST: u64 = 200;
+/// The most updates of a short list.
 const FEW: u64 = 12;
 
 /// How many random lists are asked for, of how many positions and with how many updates.
@@ -23,47 +19,6 @@ const ROUNDS: [(usize, RangeInclusive<u64>, RangeInclusive<u64>); 7] = [
     (60, 1..=8, FEW + 1..=MOST),
     (20, 2..=63, MOST..=MOST),
 ];
-
-/// The parts of the fixed shows as packets, from every bit of a byte on, with room for the fields of
-/// each and with a word less.
-pub fn fixed(batch: &mut Batch<'_>) {
-    for file in sound() {
-        let mut parts = parts(&file).expect("a sound header");
-        parts.truncate(1 + MOST as usize);
-        for lead in 0..8 {
-            let list = listed(parts.iter().map(|part| after_ones(part, lead)).collect());
-            let enough = enough(&list);
-            batch.list(list.clone(), Record::Room(enough));
-            batch.list(list, Record::Room(enough.saturating_sub(1)));
-        }
-    }
-}
-
-/// The bytes after so many ones.
-fn after_ones(bytes: &[u8], lead: usize) -> Input {
-    let mut bits = Bits::default();
-    bits.put(u64::MAX, lead);
-    bits.append(&Bits::from(bytes));
-    Input {
-        offset: lead as u64,
-        bytes: bits.bytes(),
-    }
-}
-
-/// The words that the packet of the most fields takes.
-fn enough(list: &List) -> u32 {
-    FIELD_WORDS * most_fields(list) as u32
-}
-
-/// The first packet as a scene, and the others as its updates.
-fn listed(mut packets: Vec<Input>) -> List {
-    List {
-        recording: false,
-        room: 0,
-        scene: packets.remove(0),
-        updates: packets,
-    }
-}
 
 pub fn random(batch: &mut Batch<'_>) {
     for (rounds, positions, updates) in ROUNDS {

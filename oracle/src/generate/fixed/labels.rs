@@ -1,9 +1,9 @@
 //! Scripts with a label, each of the one form that such a script can have.
-use super::batch::{Batch, Record};
-use super::draft::{Draft, drafted};
-use super::metadata::{write_label, write_resource};
-use super::scripts::named;
-use super::variants::Good;
+use crate::generate::batch::Batch;
+use crate::generate::drafts::metadata::{write_label, write_resource};
+use crate::generate::drafts::scripts::named;
+use crate::generate::drafts::{Draft, drafted};
+use crate::generate::variants::Good;
 use crate::label;
 use crate::request::Question;
 use crate::rng::Rng;
@@ -29,24 +29,8 @@ pub fn labels(batch: &mut Batch<'_>) {
     }
 }
 
-/// A few labels for the stored sample.
-pub fn few_labels(batch: &mut Batch<'_>) {
-    for length in [0, 1, 3] {
-        let script = labelled(batch.rng, length);
-        for cut in (0..=script.bits.len()).step_by(3) {
-            batch.cut_at(&script, cut);
-        }
-        batch.rooms_near(&script);
-    }
-    for (length, lead) in [(4_095, 1), (4_096, 6), (4_097, 3)] {
-        let script = labelled(batch.rng, length);
-        batch.at(&script, lead, Record::Ample);
-        batch.cut_at(&script, script.bits.len() - 17);
-    }
-}
-
 /// The script of a metadata configuration that holds a label of so many non-zero bytes.
-fn labelled(rng: &mut Rng, length: usize) -> Good {
+pub fn labelled(rng: &mut Rng, length: usize) -> Good {
     let ops = label::FORM.map(|action| named(rng, action, 1));
     let bits = drafted(rng, |d| write_labelled(d, length));
     Good {

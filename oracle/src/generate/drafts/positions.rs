@@ -1,6 +1,6 @@
 //! Drafts of scenes, updates and positions.
-use super::draft::{Draft, drafted};
-use super::variants::Good;
+use super::{Draft, drafted};
+use crate::generate::variants::Good;
 use crate::request::{Question, Shape};
 use crate::rng::Rng;
 

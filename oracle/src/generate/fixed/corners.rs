@@ -1,19 +1,19 @@
 //! The corners of a metadata configuration, each with the number that it must give: document 01's
 //! boundary list, its probabilities, and what is easily misread.
-use super::batch::Batch;
 use super::boundaries::{bytes, extended_parameters, long_tables};
-use super::compression::{
+use crate::bits::Bits;
+use crate::generate::batch::Batch;
+use crate::generate::drafts::Draft;
+use crate::generate::drafts::compression::{
     code_window, exact, flat_window, lzw_window, parameter_window, probability_window,
     value_window, zero_window,
 };
-use super::draft::Draft;
-use super::metadata::{
+use crate::generate::drafts::metadata::{
     self, Metadata, channel_group, contiguous_group, headphones, layout, least_group,
 };
-use super::positions::EXTENSIONS;
-use super::renderer::{self, matrix, matrix_head};
-use super::variants::Good;
-use crate::bits::Bits;
+use crate::generate::drafts::positions::EXTENSIONS;
+use crate::generate::drafts::renderer::{self, matrix, matrix_head};
+use crate::generate::variants::Good;
 use crate::request::Question;
 use crate::rng::Rng;
 

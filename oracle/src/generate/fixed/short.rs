@@ -1,6 +1,6 @@
 //! Short inputs: all of 0, 1 and 2 bytes, and some of them from every bit on.
-use super::batch::{Batch, Record};
-use super::positions::{some_shape, some_shapes};
+use crate::generate::batch::{Batch, Record};
+use crate::generate::drafts::positions::{some_shape, some_shapes};
 use crate::request::{Input, Question, Shape};
 
 const PLAIN: [Question; 2] = [Question::Scene, Question::Metadata];

@@ -1,0 +1,51 @@
+//! Lists of the fixed shows' parts.
+use super::shows::sound;
+use crate::bits::Bits;
+use crate::driver::{FIELD_WORDS, most_fields};
+use crate::generate::batch::{Batch, Record};
+use crate::request::{Input, List};
+use crate::show::parts;
+
+/// The most updates of a list.
+pub const MOST: u64 = 200;
+
+/// The parts of the fixed shows as packets, from every bit of a byte on, with room for the fields of
+/// each and with a word less.
+pub fn fixed(batch: &mut Batch<'_>) {
+    for file in sound() {
+        let mut parts = parts(&file).expect("a sound header");
+        parts.truncate(1 + MOST as usize);
+        for lead in 0..8 {
+            let list = listed(parts.iter().map(|part| after_ones(part, lead)).collect());
+            let enough = enough(&list);
+            batch.list(list.clone(), Record::Room(enough));
+            batch.list(list, Record::Room(enough.saturating_sub(1)));
+        }
+    }
+}
+
+/// The bytes after so many ones.
+fn after_ones(bytes: &[u8], lead: usize) -> Input {
+    let mut bits = Bits::default();
+    bits.put(u64::MAX, lead);
+    bits.append(&Bits::from(bytes));
+    Input {
+        offset: lead as u64,
+        bytes: bits.bytes(),
+    }
+}
+
+/// The words that the packet of the most fields takes.
+pub fn enough(list: &List) -> u32 {
+    FIELD_WORDS * most_fields(list) as u32
+}
+
+/// The first packet as a scene, and the others as its updates.
+pub fn listed(mut packets: Vec<Input>) -> List {
+    List {
+        recording: false,
+        room: 0,
+        scene: packets.remove(0),
+        updates: packets,
+    }
+}

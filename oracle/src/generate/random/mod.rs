@@ -1,0 +1,23 @@
+//! Parts whose requests are drawn from the seed, other ones each time that they are asked.
+pub mod lists;
+pub mod names;
+mod noise;
+pub mod readings;
+mod scripts;
+pub mod shows;
+pub mod validations;
+
+use super::Part;
+
+/// In the order in which they draw from the seed.
+pub const PARTS: [Part; 9] = [
+    noise::noise,
+    readings::scenes_and_updates,
+    readings::each_kind,
+    readings::configurations,
+    validations::random,
+    scripts::scripts,
+    names::random,
+    shows::random,
+    lists::random,
+];
