@@ -18,6 +18,20 @@ impl Bits {
             .extend((0..width).rev().map(|i| (value >> i) & 1 == 1));
     }
 
+    /// Appends an escaped number; a value too large for its widths becomes their greatest.
+    pub fn esc(&mut self, value: u64, widths: [usize; 3]) {
+        let mut left = value;
+        for width in widths {
+            let ones = (1 << width) - 1;
+            let part = left.min(ones);
+            self.put(part, width);
+            left -= part;
+            if part != ones {
+                break;
+            }
+        }
+    }
+
     pub fn append(&mut self, other: &Bits) {
         self.0.extend_from_slice(&other.0);
     }

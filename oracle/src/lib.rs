@@ -2,7 +2,7 @@
 //!
 //! It is a library, so that the program `port` shares its requests, answers and text lines.
 pub mod answer;
-mod bits;
+pub mod bits;
 pub mod compare;
 pub mod driver;
 pub mod generate;

@@ -112,11 +112,12 @@ fn write_compression(writer: &mut Writer, widths: &[u64], precision: usize) {
         }
     }
     window.flag(false);
+    let window = window.into_bits();
     writer.flag(true);
     writer.put(TABLES, 3);
-    writer.esc(window.length().div_ceil(8) as u64, BYTES);
+    writer.esc(window.len().div_ceil(8) as u64, BYTES);
     writer.append(&window);
-    writer.put(0, window.length().wrapping_neg() % 8);
+    writer.put(0, window.spare());
 }
 
 /// One of 2^width probabilities that are all the same; they add up to 1 in binary32, else to more

@@ -1,5 +1,5 @@
-//! Inputs are written bit by bit, most significant bit first. What is free is left to chance, which
-//! is the same each time.
+//! Inputs are written bit by bit. What is free is left to chance, which is the same each time.
+use oracle::bits::Bits;
 
 /// The widths of most escaped numbers of metadata, and of lengths in bytes.
 pub const ESC: [usize; 3] = [4, 7, 10];
@@ -7,39 +7,23 @@ pub const BYTES: [usize; 3] = [4, 8, 16];
 
 #[derive(Default)]
 pub struct Writer {
-    bytes: Vec<u8>,
-    length: usize,
+    bits: Bits,
     state: u64,
 }
 
 impl Writer {
     pub fn put(&mut self, value: u64, width: usize) {
-        for i in (0..width).rev() {
-            if self.length.is_multiple_of(8) {
-                self.bytes.push(0);
-            }
-            let bit = (value >> i & 1) as u8;
-            self.bytes[self.length / 8] |= bit << (7 - self.length % 8);
-            self.length += 1;
-        }
+        self.bits.put(value, width);
     }
 
     pub fn flag(&mut self, value: bool) -> bool {
-        self.put(value.into(), 1);
+        self.bits.push(value);
         value
     }
 
     /// An escaped number.
     pub fn esc(&mut self, value: u64, widths: [usize; 3]) {
-        let mut left = value;
-        for width in widths {
-            let ones = (1 << width) - 1;
-            self.put(left.min(ones), width);
-            if left < ones {
-                return;
-            }
-            left -= ones;
-        }
+        self.bits.esc(value, widths);
     }
 
     /// An escaped number that ends in its first part.
@@ -62,19 +46,17 @@ impl Writer {
         self.any(&[rest]);
     }
 
-    pub fn append(&mut self, other: &Writer) {
-        for i in 0..other.length {
-            let byte = other.bytes[i / 8];
-            self.put(u64::from(byte >> (7 - i % 8)), 1);
-        }
+    /// What another one has written.
+    pub fn append(&mut self, bits: &Bits) {
+        self.bits.append(bits);
     }
 
-    pub fn length(&self) -> usize {
-        self.length
+    pub fn into_bits(self) -> Bits {
+        self.bits
     }
 
     pub fn into_bytes(self) -> Vec<u8> {
-        self.bytes
+        self.bits.bytes()
     }
 
     /// The next number of a Weyl sequence, its bits mixed.

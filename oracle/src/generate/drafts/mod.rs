@@ -80,18 +80,9 @@ impl Draft<'_> {
         self.maybe(50)
     }
 
-    /// An escaped number; a value too large for its widths becomes their greatest.
+    /// An escaped number.
     pub fn esc(&mut self, value: u64, widths: [usize; 3]) {
-        let mut left = value;
-        for width in widths {
-            let ones = (1 << width) - 1;
-            let part = left.min(ones);
-            self.put(part, width);
-            left -= part;
-            if part != ones {
-                break;
-            }
-        }
+        self.bits.esc(value, widths);
     }
 
     /// An escaped number that ends in its first, second or third part.
