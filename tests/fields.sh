@@ -1,7 +1,7 @@
 #!/usr/bin/env bash
 # Runs scene-fields as people do: the recorded runs, from a file, from a pipe, on input that is empty, slow or too long, where
 # reading or writing fails, with wrong arguments; the greatest listings against the clock; and then on every scene, every
-# metadata and every part of a show of the stored sample, whose listing must be the oracle's.
+# metadata and every part of a show of some samples, whose listing must be the oracle's.
 set -euo pipefail
 cd "$(dirname "$0")/.."
 program=bin/scene-fields
@@ -112,12 +112,12 @@ for words in scene "metadata 1" "part 0"; do
   done
 done
 
-# The cases of the stored sample: case N has its arguments in N.args, its input in N.in, and what standard output and standard
+# The cases of the samples: case N has its arguments in N.args, its input in N.in, and what standard output and standard
 # error must get in N.out and N.report.
 build_oracle
 cases=$work/cases
 mkdir "$cases"
-"$oracle" sample 1 | "$oracle" listings "$cases" >"$work/told"
+samples 7 | "$oracle" listings "$cases" >"$work/told"
 read -r total _ <"$work/told"
 
 # quickly CASE INPUT: runs a case on this input in under a second.

@@ -1,6 +1,6 @@
 #!/usr/bin/env bash
 # Runs scene-show as people do: on the shipped example, from a file, from a pipe, on input that is empty, cut, slow or too long,
-# and where reading or writing fails; and then on every show of the stored sample, whose text must be the oracle's.
+# and where reading or writing fails; and then on every show of some samples, whose text must be the oracle's.
 set -euo pipefail
 cd "$(dirname "$0")/.."
 program=bin/scene-show
@@ -26,9 +26,9 @@ expect 1 "scene-show: standard input: Bad file descriptor" "$work/nothing" <&-
 unprinted docs/worked.show
 expect 2 "usage: scene-show < FILE" "$work/nothing" docs/worked.show </dev/null
 
-# The shows of the stored sample, one by one. In an answer's line each newline is written as a slash.
+# The shows of the samples, one by one. In an answer's line each newline is written as a slash.
 build_oracle
-"$oracle" sample 1 | grep '^show ' >"$work/shows"
+samples 14 | grep '^show ' >"$work/shows"
 "$oracle" answer <"$work/shows" >"$work/answers"
 shown=0
 while read -r _ file <&3 && read -r _ _ _ _ _ _ _ text <&4; do

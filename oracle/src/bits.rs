@@ -8,6 +8,10 @@ impl Bits {
         self.0.len()
     }
 
+    pub fn is_empty(&self) -> bool {
+        self.0.is_empty()
+    }
+
     pub fn push(&mut self, bit: bool) {
         self.0.push(bit);
     }

@@ -8,6 +8,14 @@ build_oracle() {
   cargo build --quiet --release --offline --manifest-path oracle/Cargo.toml
 }
 
+# samples N: the requests of the samples of seeds 1 to N, each once. That of seed 1 is the stored one.
+samples() {
+  local seed
+  for ((seed = 1; seed <= $1; seed++)); do
+    "$oracle" sample "$seed" || return
+  done | awk '!met[$0]++'
+}
+
 # Compiles the static library over the libraries that `rt ci` has just proved and left in crates/*/out, as it compiles programs, and
 # checks gateway_c. `rt lib` proves each of the 40 crates below once more, since it takes no library of `rt ci`'s.
 compile_over_proved() {

@@ -26,7 +26,7 @@ pub fn generate(seed: u64, scale: u64) -> impl Iterator<Item = Vec<Request>> {
     requests(fixed::PARTS.into_iter().chain(random), seed)
 }
 
-/// The sample that is stored in the repository.
+/// A sample; that of seed 1 is stored in the repository.
 pub fn sample(seed: u64) -> impl Iterator<Item = Vec<Request>> {
     requests(sample::PARTS.into_iter(), seed)
 }

@@ -1,10 +1,12 @@
-//! The sample of requests that is stored in the repository.
+//! The sample of requests. That of seed 1 is stored in the repository, so it is kept small.
 use super::Part;
 use super::batch::{Batch, Record};
-use super::drafts::metadata;
 use super::drafts::positions::{EXTENSIONS, alone, scene, scene_of, shapes_of, update, update_of};
 use super::drafts::scripts::some_script;
-use super::fixed::boundaries::{examples, extended_graphs, extended_position, fullest, shapes};
+use super::drafts::{metadata, renderer};
+use super::fixed::boundaries::{
+    examples, extended_graphs, extended_position, precisions, shape_counts,
+};
 use super::fixed::corners::corners;
 use super::fixed::labels::labelled;
 use super::fixed::names::{AMPLE, greatest, length};
@@ -14,14 +16,16 @@ use super::fixed::validations::every_list;
 use super::random::names::{beyond, known, some_room};
 use super::random::readings::{of_fields, one_of_each, small};
 use super::random::shows::short_show;
-use super::random::validations::some_list;
-use super::variants::Good;
+use super::random::validations::{list_of, some_list};
+use super::variants::{Drafted, Good};
+use crate::answer::Field;
 use crate::driver::GREATEST_COUNT;
-use crate::names::templates;
+use crate::names::{template_of, templates, text, word};
 use crate::record::record;
 use crate::request::Request;
 use crate::rng::Rng;
 use crate::show::GREATEST_FILE;
+use std::collections::BTreeSet;
 use std::slice;
 
 /// In the order in which they draw from the seed.
@@ -29,32 +33,31 @@ pub const PARTS: [Part; 5] = [scripts, readings, metadata, names, shows];
 
 /// About how large the records are: of scripts, of the drafts of each reading, of validations, of
 /// metadata and of random shows.
-const SCRIPTS: usize = 390_000;
-const DRAFTS: usize = 180_000;
-const VALIDATIONS: usize = 80_000;
-const METADATA: usize = 600_000;
-const SHOWS: usize = 120_000;
+const SCRIPTS: usize = 118_000;
+const DRAFTS: usize = 22_000;
+const VALIDATIONS: usize = 22_000;
+const METADATA: usize = 115_000;
+const SHOWS: usize = 10_000;
 
 /// Records of more bytes are mostly replaced by such without fields.
-const LONG: usize = 400;
+const LONG: usize = 250;
 
-/// Corners of more fields are asked for without them.
-const FEW: usize = 160;
+/// How often each number of a reading is reached at least.
+const ENOUGH: usize = 5;
+
+/// Corners and kinds of more fields are asked for without them.
+const FEW: usize = 40;
 
 /// The most bits of metadata that is asked for with every cut.
 const SHORT: usize = 160;
-
-type Drafted = fn(&mut Rng) -> Good;
 
 /// All limits, a few labels, and small scripts as long as they fit.
 fn scripts(batch: &mut Batch<'_>) {
     limits(batch);
     few_labels(batch);
-    for _ in 0..6 {
-        let script = some_script(batch.rng, 3);
-        batch.every_cut(&script);
-        batch.rooms_near(&script);
-    }
+    let script = some_script(batch.rng, 3);
+    batch.every_cut(&script);
+    batch.rooms_near(&script);
     fill(batch, 0, SCRIPTS, |batch| {
         let script = some_script(batch.rng, 4);
         batch.somewhere(&script);
@@ -62,28 +65,35 @@ fn scripts(batch: &mut Batch<'_>) {
     });
 }
 
-/// A few labels, short and around their limit.
+/// A short label with its cuts, and the greatest one and the next.
 fn few_labels(batch: &mut Batch<'_>) {
-    for length in [0, 1, 3] {
-        let script = labelled(batch.rng, length);
-        for cut in (0..=script.bits.len()).step_by(3) {
-            batch.cut_at(&script, cut);
-        }
-        batch.rooms_near(&script);
+    let script = labelled(batch.rng, 2);
+    for cut in (0..=script.bits.len()).step_by(5) {
+        batch.cut_at(&script, cut);
     }
-    for (length, lead) in [(4_095, 1), (4_096, 6), (4_097, 3)] {
+    for (length, lead) in [(4_096, 6), (4_097, 3)] {
         let script = labelled(batch.rng, length);
         batch.at(&script, lead, Record::Ample);
-        batch.cut_at(&script, script.bits.len() - 17);
     }
 }
 
 /// Scenes, updates, positions and validations.
 fn readings(batch: &mut Batch<'_>) {
-    examples(batch);
-    shapes(batch);
+    for good in examples() {
+        every_lead(batch, &good);
+    }
+    shape_counts(batch, &[GREATEST_COUNT + 1]);
+    precisions(batch);
     extensions(batch);
     widest(batch);
+    for draft in [scene, update] {
+        for number in [8, 9] {
+            for _ in 0..ENOUGH {
+                let good = ending(batch.rng, number, |rng| small(rng, draft));
+                batch.at(&good, 2, Record::Off);
+            }
+        }
+    }
     for draft in [scene, update, alone] {
         let from = batch.requests.len();
         few_fields(batch, draft);
@@ -91,36 +101,92 @@ fn readings(batch: &mut Batch<'_>) {
     }
     let from = batch.requests.len();
     every_list(batch, 3);
+    for count in GREATEST_COUNT..=GREATEST_COUNT + ENOUGH {
+        list_of(batch, count);
+    }
     fill(batch, from, VALIDATIONS, some_list);
+}
+
+/// From every bit of a byte on, once with its fields.
+fn every_lead(batch: &mut Batch<'_>, good: &Good) {
+    batch.at(good, 0, Record::Ample);
+    (1..8).for_each(|lead| batch.at(good, lead, Record::Off));
+}
+
+/// A draft that ends in the number.
+fn ending(rng: &mut Rng, number: u8, draft: impl Fn(&mut Rng) -> Good) -> Good {
+    loop {
+        let good = draft(rng);
+        if good.answer().verdict.number == number {
+            return good;
+        }
+    }
 }
 
 /// Metadata: its corners, every kind of part, and drafts as long as they fit.
 fn metadata(batch: &mut Batch<'_>) {
     let from = batch.requests.len();
-    few_corners(batch);
-    for _ in 0..2 {
-        for good in one_of_each(batch.rng) {
-            let lead = batch.rng.below(8) as usize;
-            batch.at(&good, lead, Record::Ample);
-            batch.cut_somewhere(&good);
-        }
-    }
+    every_corner(batch);
+    every_name(batch);
     few_fields(batch, short_metadata);
     fill(batch, from, METADATA, |batch| {
         around_one(batch, metadata::some)
     });
 }
 
-/// Every corner at some of its offsets, once with its fields if they are few.
-fn few_corners(batch: &mut Batch<'_>) {
+/// Every corner at one of its offsets; the first that gives a number at several, once with its
+/// fields if they are few.
+fn every_corner(batch: &mut Batch<'_>) {
+    let mut met = BTreeSet::new();
     for corner in corners(batch.rng) {
+        let leads = corner.leads();
+        if !met.insert(corner.number) {
+            let lead = batch.rng.pick(&leads);
+            batch.at(&corner.good, lead, Record::Off);
+            continue;
+        }
         let few = corner.good.fields().len() <= FEW;
         let mut record = if few { Record::Ample } else { Record::Off };
-        for lead in corner.leads().into_iter().take(5) {
+        for lead in leads.into_iter().take(ENOUGH) {
             batch.at(&corner.good, lead, record);
             record = Record::Off;
         }
     }
+}
+
+/// Every kind of part, with its fields if it tells a kind that was not told before, or if they are
+/// few and have a name that was not recorded before; and more until every name was.
+fn every_name(batch: &mut Batch<'_>) {
+    let mut left = names_of_metadata();
+    let mut kinds = BTreeSet::new();
+    let mut first = true;
+    while first || !left.is_empty() {
+        for good in one_of_each(batch.rng) {
+            let fields = good.fields();
+            let few = fields.len() <= FEW;
+            let mut new = false;
+            for Field { name, value, .. } in fields {
+                let template = template_of(word(&name).expect("a name with a word"));
+                let kind = name.contains("parameters[") && name.ends_with("].id");
+                new |= kind && kinds.insert((template, value.min(renderer::KINDS)));
+                new |= few && left.remove(&template);
+            }
+            if first || new {
+                let lead = batch.rng.below(8) as usize;
+                batch.at(&good, lead, if new { Record::Ample } else { Record::Off });
+            }
+        }
+        first = false;
+    }
+}
+
+/// Block and leaf of every name of metadata.
+fn names_of_metadata() -> BTreeSet<u64> {
+    let names = templates().iter().filter(|template| {
+        let name = text(template.word([0; 4])).expect("a template's text");
+        name.starts_with("ancillary.metadata.")
+    });
+    names.map(|template| template.number).collect()
 }
 
 /// Metadata of few bits, so that most cuts leave more than a part of its first payload.
@@ -184,49 +250,39 @@ fn stored_size(requests: &[Request]) -> usize {
     requests.iter().map(size).sum()
 }
 
-/// 31 and 32 extensions, in one position and in the last of 63.
+/// 31 extensions, and 32, which are refused.
 fn extensions(batch: &mut Batch<'_>) {
-    for count in [EXTENSIONS - 1, EXTENSIONS] {
-        for good in extended(batch.rng, count) {
-            batch.at(&good, 0, Record::Ample);
-            (1..8).for_each(|lead| batch.at(&good, lead, Record::Off));
-        }
-        for good in fullest(batch.rng, count) {
-            batch.at(&good, 5, Record::Off);
+    for (count, leads) in [(EXTENSIONS - 1, 1), (EXTENSIONS, ENOUGH)] {
+        let [full, changed] = [true, false].map(|full| extended_position(batch.rng, full, count));
+        let [scene, update] = extended_graphs(batch.rng, &full.bits, count);
+        for good in [full, changed, scene, update] {
+            (0..leads).for_each(|lead| batch.at(&good, lead, Record::Off));
         }
     }
 }
 
-fn extended(rng: &mut Rng, count: usize) -> [Good; 4] {
-    let [full, changed] = [true, false].map(|full| extended_position(rng, full, count));
-    let [scene, update] = extended_graphs(rng, &full.bits, count);
-    [full, changed, scene, update]
-}
-
-/// Scenes and updates of 63 positions, one of each with its fields.
+/// A scene and an update of 63 positions, both of them read.
 fn widest(batch: &mut Batch<'_>) {
-    for record in [Record::Ample, Record::Off, Record::Off, Record::Off] {
-        let scene = scene_of(batch.rng, GREATEST_COUNT);
-        let shapes = shapes_of(batch.rng, GREATEST_COUNT);
-        let update = update_of(batch.rng, shapes);
-        for good in [scene, update] {
-            batch.at(&good, 3, record);
-        }
+    let scene = ending(batch.rng, 0, |rng| scene_of(rng, GREATEST_COUNT));
+    let update = ending(batch.rng, 0, |rng| {
+        let shapes = shapes_of(rng, GREATEST_COUNT);
+        update_of(rng, shapes)
+    });
+    for good in [scene, update] {
+        batch.at(&good, 3, Record::Off);
     }
 }
 
-/// Drafts of few fields: every cut, every offset within a byte, every room.
+/// Drafts of few fields: every cut of one, and rooms around what two others take.
 fn few_fields(batch: &mut Batch<'_>, draft: Drafted) {
-    for _ in 0..3 {
-        let good = of_fields(batch.rng, draft, 8..=25);
-        let from = batch.requests.len();
-        batch.every_cut(&good);
-        thin(batch, from);
+    let good = of_fields(batch.rng, draft, 8..=16);
+    let from = batch.requests.len();
+    batch.every_cut(&good);
+    thin(batch, from);
+    for _ in 0..2 {
+        let good = of_fields(batch.rng, draft, 6..=12);
         batch.rooms_near(&good);
     }
-    let good = of_fields(batch.rng, draft, 6..=12);
-    batch.every_offset(&good);
-    batch.every_room(&good);
 }
 
 /// A draft with what can be made of it.

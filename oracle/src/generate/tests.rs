@@ -6,20 +6,15 @@ use super::random::readings;
 use super::variants::Good;
 use super::{Part, fixed, random};
 use crate::answer::{Answer, Outcome};
-use crate::driver::{answer, read};
+use crate::driver::answer;
 use crate::names;
 use crate::record::record;
-use crate::request::{Input, List, Question, Request, Shape};
+use crate::request::{List, Question, Request, Shape};
 use crate::rng::Rng;
 use crate::table::{Table, ends};
 use std::collections::BTreeSet;
 use std::ops::RangeInclusive;
 use std::sync::LazyLock;
-
-fn ask(good: &Good) -> Answer {
-    let bytes = good.bits.bytes();
-    read(good.question.clone(), Input::from(bytes.as_slice()))
-}
 
 #[test]
 fn extensions() {
@@ -29,7 +24,7 @@ fn extensions() {
             shape: Shape::default(),
         };
         let bits = drafted(&mut Rng::new(1), |d| write_largest(d, true, count));
-        ask(&Good { question, bits })
+        Good { question, bits }.answer()
     };
     assert_eq!(position(EXTENSIONS - 1).verdict.number, 0);
     assert_eq!(position(EXTENSIONS).verdict.number, 7);
@@ -109,9 +104,8 @@ fn lines_can_be_read_back() {
 fn sample() -> Vec<Request> {
     let rng = &mut Rng::new(1);
     let mut batch = Batch::new(rng);
-    super::sample::PARTS
-        .iter()
-        .for_each(|part| part(&mut batch));
+    let parts = super::sample::PARTS;
+    parts.iter().for_each(|part| part(&mut batch));
     batch.requests
 }
 
@@ -119,8 +113,8 @@ fn sample() -> Vec<Request> {
 fn sample_is_bounded() {
     let requests = sample();
     let size = |request| record(request).expect("an answer").len();
-    assert!((8_000..=11_000).contains(&requests.len()));
-    assert!(requests.iter().map(size).sum::<usize>() <= 3 << 20);
+    assert!((2_500..=4_000).contains(&requests.len()));
+    assert!(requests.iter().map(size).sum::<usize>() <= 720_000);
 }
 
 #[test]
@@ -262,7 +256,7 @@ fn shown(request: &Request) -> Option<Shown> {
 
 /// The shows that are generated, and those of the sample.
 static SHOWS: LazyLock<[Vec<Shown>; 2]> = LazyLock::new(|| {
-    let generated = [fixed::shows::fixed, random::shows::random]
+    let generated = [fixed::shows::shows, random::shows::shows]
         .map(requests)
         .concat();
     [generated, sample()].map(|requests| requests.iter().filter_map(shown).collect())
@@ -287,8 +281,8 @@ fn fixed_shows() {
 #[test]
 fn fixed_shows_and_lists_take_no_random_numbers() {
     let rng = &mut Rng::new(1);
-    fixed::shows::fixed(&mut Batch::new(rng));
-    fixed::lists::fixed(&mut Batch::new(rng));
+    fixed::shows::shows(&mut Batch::new(rng));
+    fixed::lists::lists(&mut Batch::new(rng));
     assert_eq!(rng.next(), Rng::new(1).next());
 }
 
@@ -347,7 +341,7 @@ fn stored_shows_are_bounded() {
     let requests = sample();
     let shows = requests.iter().filter(|request| request.kind() == "show");
     let size = |request| record(request).expect("an answer").len();
-    assert!(shows.map(size).sum::<usize>() <= 450_000);
+    assert!(shows.map(size).sum::<usize>() <= 300_000);
 }
 
 /// The random lists with the answers of their packets.
@@ -356,14 +350,14 @@ static LISTS: LazyLock<Vec<(List, Vec<Answer>)>> = LazyLock::new(|| {
         Request::List(list) => Some((list.clone(), answer(&request).packets)),
         _ => None,
     };
-    let requests = requests(random::lists::random).into_iter();
+    let requests = requests(random::lists::lists).into_iter();
     requests.filter_map(listed).collect()
 });
 
 #[test]
 fn lists_reach_every_number() {
     let mut table = Table::default();
-    let fixed = requests(fixed::lists::fixed);
+    let fixed = requests(fixed::lists::lists);
     for answer in fixed.iter().map(answer) {
         table.count(&answer).expect("an answer");
     }

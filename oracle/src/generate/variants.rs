@@ -1,8 +1,8 @@
 //! What is asked around a good input: at other offsets, cut, damaged, with little room.
 use super::batch::{Batch, Record};
-use crate::answer::Field;
+use crate::answer::{Answer, Field};
 use crate::bits::Bits;
-use crate::driver::{FIELD_WORDS, all_fields};
+use crate::driver::{FIELD_WORDS, all_fields, read};
 use crate::request::{Call, Input, Question};
 use crate::rng::Rng;
 use apac::run::{Action, Op};
@@ -13,6 +13,9 @@ pub struct Good {
     pub question: Question,
     pub bits: Bits,
 }
+
+/// What drafts a good input.
+pub type Drafted = fn(&mut Rng) -> Good;
 
 impl Good {
     /// The bits after `lead` random ones, the last byte filled at random.
@@ -52,6 +55,12 @@ impl Good {
             question: self.question.clone(),
             bits,
         }
+    }
+
+    /// What the Rust answers, with recording off.
+    pub fn answer(&self) -> Answer {
+        let bytes = self.bits.bytes();
+        read(self.question.clone(), Input::from(bytes.as_slice()))
     }
 
     /// The fields that the Rust reads.
@@ -182,7 +191,7 @@ impl Batch<'_> {
     pub fn around(&mut self, good: &Good) {
         self.somewhere(good);
         self.somewhere(good);
-        if good.bits.len() == 0 {
+        if good.bits.is_empty() {
             return;
         }
         let fields = good.writable_fields();

@@ -1,12 +1,12 @@
 //! Drafts of compression configurations.
+use super::metadata::LONG;
 use super::{Draft, drafted};
 use crate::bits::Bits;
 use crate::rng::Rng;
 
-/// Widths of the escaped numbers of the window and of its length in bytes.
+/// Widths of the escaped numbers of the window.
 const SMALL: [usize; 3] = [3, 8, 16];
 const WIDTH: [usize; 3] = [5, 8, 16];
-const BYTES: [usize; 3] = [4, 8, 16];
 
 /// The greatest symbol width.
 const SYMBOL_WIDTH: u64 = 12;
@@ -41,7 +41,7 @@ fn write_section(d: &mut Draft<'_>, kind: u64, window: &Bits) {
 
 fn write_declared(d: &mut Draft<'_>, kind: u64, bytes: u64, window: &Bits) {
     d.put(kind, 3);
-    d.esc(bytes, BYTES);
+    d.esc(bytes, LONG);
     d.append(window);
     d.payload(window.spare());
 }

@@ -48,8 +48,7 @@ pub fn some_packets(rng: &mut Rng, scene: &Good, updates: u64, lead: Lead) -> Ve
 fn some_update(rng: &mut Rng, shapes: &[Shape]) -> Good {
     let number = rng.pick(&[0, 0, 8, 9]);
     let ends = |good: &Good| {
-        let bytes = good.bits.bytes();
-        let answer = read(good.question.clone(), Input::from(bytes.as_slice()));
+        let answer = good.answer();
         answer.verdict.number == number && answer.count > shapes.len()
     };
     let mut good = changed(rng, shapes);
@@ -84,7 +83,7 @@ fn packet(rng: &mut Rng, good: &Good, spoilt: u64, lead: Lead) -> Input {
     let mut input = good.input(rng, lead);
     if rng.percent(spoilt) {
         match rng.below(3) {
-            0 if good.bits.len() > 0 => input = good.damaged(rng).input(rng, lead),
+            0 if !good.bits.is_empty() => input = good.damaged(rng).input(rng, lead),
             1 => {
                 let length = rng.below(input.bytes.len() as u64 + 1);
                 input.bytes.truncate(length as usize);

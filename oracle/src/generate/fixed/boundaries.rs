@@ -12,9 +12,10 @@ use crate::rng::Rng;
 use crate::text::unhex;
 
 pub fn boundaries(batch: &mut Batch<'_>) {
-    examples(batch);
+    examples().iter().for_each(|good| batch.every_offset(good));
     extensions(batch);
-    shapes(batch);
+    shape_counts(batch, &[0, 1, GREATEST_COUNT, GREATEST_COUNT + 1, 70]);
+    precisions(batch);
     labels(batch);
     parameter_counts(batch);
     group_counts(batch);
@@ -34,25 +35,24 @@ pub fn bytes(hex: &str) -> Vec<u8> {
 }
 
 /// The scenes of document 01, and its packets against the shapes that its show goes through.
-pub fn examples(batch: &mut Batch<'_>) {
-    for hex in ["-", "00", "04", "04000400", "04000000", "0a0080800080"] {
-        let bits = Bits::from(bytes(hex).as_slice());
-        let question = Question::Scene;
-        batch.every_offset(&Good { question, bits });
-    }
+pub fn examples() -> Vec<Good> {
     let moving = |parent| Shape {
         parent_dynamic: true,
         parent,
         ..Shape::default()
     };
+    let scenes = ["-", "00", "04", "04000400", "04000000", "0a0080800080"];
+    let mut list = scenes.map(|hex| example(Question::Scene, hex)).to_vec();
     for parents in [[0, 1], [0, 0], [2, 0]] {
         let question = Question::Update(parents.map(moving).to_vec());
-        for hex in ["c100", "70"] {
-            let bits = Bits::from(bytes(hex).as_slice());
-            let question = question.clone();
-            batch.every_offset(&Good { question, bits });
-        }
+        list.extend(["c100", "70"].map(|hex| example(question.clone(), hex)));
     }
+    list
+}
+
+fn example(question: Question, hex: &str) -> Good {
+    let bits = Bits::from(bytes(hex).as_slice());
+    Good { question, bits }
 }
 
 /// Around 32 extensions: up to 31 are ended by a type 0, after 32 none is read.
@@ -124,14 +124,18 @@ fn graphs(scene: Bits, update: Bits, count: usize) -> [Good; 2] {
     [scene, update].map(|(question, bits)| Good { question, bits })
 }
 
-/// The greatest count of shapes and the greatest precision, and one more.
-pub fn shapes(batch: &mut Batch<'_>) {
+/// Updates of so many shapes.
+pub fn shape_counts(batch: &mut Batch<'_>, counts: &[usize]) {
     let input = Input::from([0; 9].as_slice());
-    for count in [0, 1, GREATEST_COUNT, GREATEST_COUNT + 1, 70] {
+    for &count in counts {
         let question = Question::Update(vec![Shape::default(); count]);
         batch.call(&question, input.clone(), Record::Ample);
         batch.call(&question, input.at_bit(73), Record::Off);
     }
+}
+
+/// The greatest precision, and greater ones.
+pub fn precisions(batch: &mut Batch<'_>) {
     for precision in [GREATEST_PRECISION, GREATEST_PRECISION + 1, 64, 255] {
         for rotation in [false, true] {
             let mut shape = some_shape(batch.rng);

@@ -11,7 +11,7 @@ pub const MOST: u64 = 200;
 
 /// The parts of the fixed shows as packets, from every bit of a byte on, with room for the fields of
 /// each and with a word less.
-pub fn fixed(batch: &mut Batch<'_>) {
+pub fn lists(batch: &mut Batch<'_>) {
     for file in sound() {
         let mut parts = parts(&file).expect("a sound header");
         parts.truncate(1 + MOST as usize);

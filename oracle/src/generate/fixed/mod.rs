@@ -24,6 +24,6 @@ pub const PARTS: [Part; 12] = [
     labels::labels,
     names::every_template,
     names::every_pair,
-    shows::fixed,
-    lists::fixed,
+    shows::shows,
+    lists::lists,
 ];

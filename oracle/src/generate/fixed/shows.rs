@@ -38,7 +38,8 @@ const COUNTS: [&str; 12] = [
 const TYPE_BITS: usize = 4;
 const LENGTH_BITS: usize = 19;
 
-pub fn fixed(batch: &mut Batch<'_>) {
+/// All that are written out here.
+pub fn shows(batch: &mut Batch<'_>) {
     small().into_iter().for_each(|file| batch.show(file));
     large().into_iter().for_each(|(file, _)| batch.show(file));
 }

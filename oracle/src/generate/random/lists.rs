@@ -20,7 +20,7 @@ const ROUNDS: [(usize, RangeInclusive<u64>, RangeInclusive<u64>); 7] = [
     (20, 2..=63, MOST..=MOST),
 ];
 
-pub fn random(batch: &mut Batch<'_>) {
+pub fn lists(batch: &mut Batch<'_>) {
     for (rounds, positions, updates) in ROUNDS {
         for _ in 0..rounds {
             let scene = scene_of_some(batch.rng, positions.clone());

@@ -15,9 +15,9 @@ pub const PARTS: [Part; 9] = [
     readings::scenes_and_updates,
     readings::each_kind,
     readings::configurations,
-    validations::random,
+    validations::validations,
     scripts::scripts,
-    names::random,
-    shows::random,
-    lists::random,
+    names::names,
+    shows::shows,
+    lists::lists,
 ];

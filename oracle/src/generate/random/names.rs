@@ -6,7 +6,7 @@ use crate::rng::Rng;
 
 const ROUNDS: usize = 5_000;
 
-pub fn random(batch: &mut Batch<'_>) {
+pub fn names(batch: &mut Batch<'_>) {
     for _ in 0..ROUNDS {
         let template = some_template(batch.rng);
         let word = match batch.rng.below(8) {

@@ -2,7 +2,7 @@
 use crate::generate::batch::Batch;
 use crate::generate::drafts::metadata::{self, Metadata};
 use crate::generate::drafts::{compression, positions, renderer};
-use crate::generate::variants::Good;
+use crate::generate::variants::{Drafted, Good};
 use crate::rng::Rng;
 use std::ops::RangeInclusive;
 
@@ -30,16 +30,12 @@ pub fn scenes_and_updates(batch: &mut Batch<'_>) {
 }
 
 /// A draft of few fields, so that all its cuts and rooms can be asked for.
-pub fn small(rng: &mut Rng, draft: fn(&mut Rng) -> Good) -> Good {
+pub fn small(rng: &mut Rng, draft: Drafted) -> Good {
     of_fields(rng, draft, 0..=SMALL)
 }
 
 /// A draft of so many fields.
-pub fn of_fields(
-    rng: &mut Rng,
-    draft: fn(&mut Rng) -> Good,
-    fields: RangeInclusive<usize>,
-) -> Good {
+pub fn of_fields(rng: &mut Rng, draft: Drafted, fields: RangeInclusive<usize>) -> Good {
     loop {
         let good = draft(rng);
         if fields.contains(&good.fields().len()) {

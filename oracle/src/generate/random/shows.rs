@@ -4,7 +4,7 @@ use crate::generate::drafts::noisy;
 use crate::generate::drafts::packets::{scene_of_some, some_packets};
 use crate::generate::drafts::positions::scene;
 use crate::generate::fixed::shows::{File, Packet, file, with_offset};
-use crate::generate::variants::Good;
+use crate::generate::variants::Drafted;
 use crate::rng::Rng;
 use crate::show::{GREATEST_PARTS, header_length};
 
@@ -19,9 +19,7 @@ const FEW: u64 = 12;
 /// The most bytes of a short show.
 const SHORT: usize = 400;
 
-type Drafted = fn(&mut Rng) -> Good;
-
-pub fn random(batch: &mut Batch<'_>) {
+pub fn shows(batch: &mut Batch<'_>) {
     let most = GREATEST_PARTS as u64 - 1;
     for (rounds, draft, updates) in [
         (ROUNDS, scene as Drafted, 0..=FEW),

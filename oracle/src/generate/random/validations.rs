@@ -8,12 +8,17 @@ use crate::rng::Rng;
 
 const ROUNDS: usize = 6_000;
 
-pub fn random(batch: &mut Batch<'_>) {
+pub fn validations(batch: &mut Batch<'_>) {
     (0..ROUNDS).for_each(|_| some_list(batch));
 }
 
 pub fn some_list(batch: &mut Batch<'_>) {
     let count = some_count(batch.rng);
+    list_of(batch, count);
+}
+
+/// A list of so many positions.
+pub fn list_of(batch: &mut Batch<'_>, count: usize) {
     let parents = some_parents(batch.rng, count);
     let mut shapes: Vec<Shape> = parents.into_iter().map(|p| hung(p as usize)).collect();
     if count > 0 && batch.rng.percent(30) {
