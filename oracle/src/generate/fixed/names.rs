@@ -1,5 +1,5 @@
-//! Every known name word at the edges of its indices, and every block with every leaf, with enough
-//! bytes for the texts or too few.
+//! Name words: every template at the edges of its indices, with enough bytes for its text or too few,
+//! and every block with every leaf.
 use crate::generate::batch::Batch;
 use crate::names::{Template, greatest_index, templates, text};
 
