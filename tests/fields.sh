@@ -18,15 +18,16 @@ text 23 "refused 23 at 0: show file of more than 65,536 bytes"
 text 24 "refused 24 at 0: header of the show file not sound"
 worked=docs/worked.fields
 
-# The recorded runs, which README shows.
+# The recorded runs, which docs/SCENE-FIELDS.md shows, and the first of them README too.
 cmp docs/worked.show crates/scene_fields/stdin
 cmp docs/worked.fields crates/scene_fields/stdout
 expect 0 "" "$worked" part 1 <docs/worked.show
 expect 0 "" docs/damaged.fields part 3 <docs/damaged.show
 cmp docs/damaged.show <(head -c 28 docs/worked.show)
-for run in worked damaged; do
-  if [[ $(<README.md) != *"$(sed 's/^/    /' "docs/$run.fields")"* ]]; then
-    echo "README.md does not show docs/$run.fields"
+for shown in docs/SCENE-FIELDS.md:worked docs/SCENE-FIELDS.md:damaged README.md:worked; do
+  page=${shown%:*} run=${shown#*:}
+  if [[ $(<"$page") != *"$(sed 's/^/    /' "docs/$run.fields")"* ]]; then
+    echo "$page does not show docs/$run.fields"
     exit 1
   fi
 done
