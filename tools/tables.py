@@ -19,6 +19,17 @@ INDICES = r"(\w to [\d,]+(, \w to [\d,]+)?)?"
 # The bytes of a row, and those of its text and a blank.
 ROW, ROW_TEXT = 59, 46
 GREATEST_INDEX = 8191
+# One more in each index, as a word: in those of a block and in those of a leaf.
+BLOCK_STEPS = [
+    f"""// One more in the first and in the second index of a name word: the names of a list of structures are so far apart.
+pub const FIRST: u64 = {2**12};""",
+    f"pub const SECOND: u64 = {2**25};",
+]
+LEAF_STEPS = [
+    f"""// One more in the third and in the fourth index of a name word, those of a leaf.
+pub const THIRD: u64 = {2**38};""",
+    f"pub const FOURTH: u64 = {2**51};",
+]
 # The numbers of show files, which the header does not have.
 SHOW_FILES = {23, 24}
 # What the text of a leaf begins with that has no name in code: a reading adds `resource` to the leaf without it.
@@ -157,7 +168,7 @@ def made():
 
     head = "// The blocks of names (docs/FIELDS.md), as words.\n"
     constant = (rust_constant(block.name, 256 * block.number, "") for block in blocks)
-    yield "crates/rules/src/block.rt", FIELDS, whole(head, constant)
+    yield "crates/rules/src/block.rt", FIELDS, whole(head, [*constant, *BLOCK_STEPS])
     head = """\
 -- What the names of each block begin with (docs/FIELDS.md): `prefix`, with the indices that its text has.
 use Rattle.std.specs.Prelude.{ℕ, ◌+◌, ◌*◌}
@@ -166,7 +177,7 @@ use Rattle.rules.specs.Name.{first, second}
 """
     yield "crates/rules/specs/Block.antt", FIELDS, whole(head, map(block_definition, blocks))
     head = "The leaves of names (docs/FIELDS.md).\n"
-    yield "crates/rules/src/leaf.rt", FIELDS, whole(f"// {head}", itertools.starmap(rust_constant, constants(leaves)))
+    yield "crates/rules/src/leaf.rt", FIELDS, whole(f"// {head}", [*itertools.starmap(rust_constant, constants(leaves)), *LEAF_STEPS])
     head = f"-- {head}use Rattle.std.specs.Prelude.{{ℕ}}\n\n"
     yield "crates/rules/specs/Leaf.antt", FIELDS, whole(head, itertools.starmap(definition, constants(leaves)))
 

@@ -4,14 +4,14 @@ use Rattle.rules.specs.Name.{third, fourth}
 use Rattle.rules.specs.Leaf as leaf
 use Rattle.rules.specs.Rule.{Rule, done, ◌>>=◌, ◌>>◌, pick}
 use Rattle.rules.specs.Derived.{flag, escaped, passive_values, stop, count, repeat}
-use Rattle.common.specs.Common.{number}
+use Rattle.common_resources.specs.Common.{number}
 use Rattle.bands.specs.declared.Kind.{Kind}
 use Rattle.bands.specs.declared.Kind.TheVariants.{CompactOrPrecise, AnglesAndGain}
 
 -- the number of the pattern whose bands these are, by the code's enum
-abbrev pub number_of : Kind → ℕ
-number_of CompactOrPrecise = 1
-number_of AnglesAndGain = 2
+abbrev pub code_of : Kind → ℕ
+code_of CompactOrPrecise = 1
+code_of AnglesAndGain = 2
 
 -- `renderer_precision`: 64 bits are not read
 unfoldable pub renderer_precision : ℕ → ℕ → Rule (Unit {0})

@@ -5,10 +5,11 @@
 ghost use Rattle.std.specs.Prelude.{◌+◌, ◌*◌, ◌≤◌, ◌<◌, IfOk};
 ghost use Rattle.rules.specs.Name.{third};
 ghost use Rattle.parser.specs.Met.{Met};
-ghost use Rattle.bands.specs.Bands.{number_of, renderer_precision, compact_or_precise, angles_and_gain, band_values, band, count_plus_one, bands};
+ghost use Rattle.bands.specs.Bands.{code_of, renderer_precision, compact_or_precise, angles_and_gain};
+ghost use Rattle.bands.specs.Bands.{band_values, band, count_plus_one, bands};
 
 use parser::{Parser, tri};
-use rules::{Field, Names, Reason, leaf};
+use rules::{Names, Reason, leaf};
 
 // What a band holds beside its frequency: the patterns 1 and 2.
 #[derive(Clone, Copy)]
@@ -25,7 +26,7 @@ pub fn renderer_precision(parser: &mut Parser<'_>, name: u64, width: usize) -> R
     if width == 64 {
         return Err(Reason::DoublePrecision);
     }
-    common::number(parser, name, width)
+    common_resources::number(parser, name, width)
 }
 
 // A band of pattern 1: two numbers, compact or of the precision.
@@ -36,10 +37,10 @@ fn compact_or_precise(parser: &mut Parser<'_>, q: Names<51>, width: usize) -> Re
     let compact = tri!(parser.flag(q.word + leaf::BAND_COMPACT));
     if compact {
         let widths: [usize; 2] = [3, 8];
-        return parser.passive_values(q.word + leaf::BAND_ENCODED, Field::FOURTH, &widths);
+        return parser.passive_values(q.word + leaf::BAND_ENCODED, leaf::FOURTH, &widths);
     }
     tri!(renderer_precision(parser, q.word + leaf::BAND_ENCODED, width));
-    renderer_precision(parser, q.word + leaf::BAND_ENCODED + Field::FOURTH, width)
+    renderer_precision(parser, q.word + leaf::BAND_ENCODED + leaf::FOURTH, width)
 }
 
 // A band of pattern 2: two numbers of 9 bits, and a gain.
@@ -48,7 +49,7 @@ fn angles_and_gain(parser: &mut Parser<'_>, q: Names<51>, width: usize) -> Resul
     ensures { Met (angles_and_gain q.word width) parser.old result parser.new }
 {
     let widths: [usize; 2] = [9, 9];
-    tri!(parser.passive_values(q.word + leaf::BAND_ENCODED, Field::FOURTH, &widths));
+    tri!(parser.passive_values(q.word + leaf::BAND_ENCODED, leaf::FOURTH, &widths));
     renderer_precision(parser, q.word + leaf::BAND_GAIN_ENCODED, width)
 }
 
@@ -60,7 +61,7 @@ fn band_values(
     width: usize,
 ) -> Result<(), Reason>
     requires { width ≤ 64 }
-    ensures { Met (band_values q.word (number_of kind) width) parser.old result parser.new }
+    ensures { Met (band_values q.word (code_of kind) width) parser.old result parser.new }
 {
     match kind {
         Kind::CompactOrPrecise => compact_or_precise(parser, q, width),
@@ -78,11 +79,12 @@ fn band(
 ) -> Result<(), Reason>
     requires i_bound { i < 4097 }
     requires width_bound { width ≤ 64 }
-    ensures { Met (band (p.word + third * i) (number_of kind) width) parser.old result parser.new }
+    ensures { Met (band (p.word + third * i) (code_of kind) width) parser.old result parser.new }
 {
     let q = Names {
-        word: p.word + Field::THIRD * i,
+        word: p.word + leaf::THIRD * i,
     };
+    // It decides what follows the frequency, and stands before it.
     let unity = tri!(parser.flag(q.word + leaf::BAND_UNITY));
     tri!(parser.escaped(q.word + leaf::BAND_FREQUENCY_MINUS_ONE, [10, 13, 17]));
     if unity {
@@ -104,7 +106,7 @@ pub fn count_plus_one(parser: &mut Parser<'_>, p: Names<38>, least: u64) -> Resu
 // Patterns 1 and 2.
 pub fn bands(parser: &mut Parser<'_>, p: Names<38>, kind: Kind, width: usize) -> Result<(), Reason>
     requires { width ≤ 64 }
-    ensures { Met (bands p.word (number_of kind) width) parser.old result parser.new }
+    ensures { Met (bands p.word (code_of kind) width) parser.old result parser.new }
 {
     let count = tri!(count_plus_one(parser, p, 11));
     parser.each(count, |parser, i| band(parser, p, i, kind, width))

@@ -4,11 +4,11 @@
 
 ghost use Rattle.std.specs.Prelude.{◌≡◌, ◌≤◌, ◌<◌, ◌^◌, IfOk};
 ghost use Rattle.parser.specs.Met.{Met};
-ghost use Rattle.code_tables.specs.Kind.{number_of};
+ghost use Rattle.code_tables.specs.Kind.{code_of};
 ghost use Rattle.code_tables.specs.Tables.{codeword, entries, table, table_count, tables};
 
 use parser::{Parser, tri};
-use rules::{Field, Names, Reason, block, leaf};
+use rules::{Names, Reason, block, leaf};
 
 // The types of compression that have tables, 1 to 3: of probabilities, the first two, which are read alike, or of codewords.
 #[derive(Clone, Copy)]
@@ -24,14 +24,14 @@ fn codeword(parser: &mut Parser<'_>, q: Names<38>, j: u64) -> Result<(), Reason>
     ensures { Met (codeword q.word j) parser.old result parser.new }
 {
     let width = tri!(parser.escaped(
-        q.word + leaf::CODE_WIDTH_MINUS_ONE + Field::THIRD * j,
+        q.word + leaf::CODE_WIDTH_MINUS_ONE + leaf::THIRD * j,
         [5, 8, 16]
     )) as usize
         + 1;
     if 64 < width {
         return Err(Reason::CodewordWidth);
     }
-    tri!(parser.take(q.word + leaf::CODE + Field::THIRD * j, width));
+    tri!(parser.take(q.word + leaf::CODE + leaf::THIRD * j, width));
     Ok(())
 }
 
@@ -46,7 +46,7 @@ fn symbols(width: u64) -> u64
 // The entries of a table for symbols of `width` bits.
 fn entries(parser: &mut Parser<'_>, kind: TableKind, q: Names<38>, width: u64) -> Result<(), Reason>
     requires { width ≤ 12 }
-    ensures { Met (entries (number_of kind) q.word width) parser.old result parser.new }
+    ensures { Met (entries (code_of kind) q.word width) parser.old result parser.new }
 {
     let n = symbols(width);
     match kind {
@@ -60,10 +60,10 @@ fn entries(parser: &mut Parser<'_>, kind: TableKind, q: Names<38>, width: u64) -
 // Table `i`.
 fn table(parser: &mut Parser<'_>, kind: TableKind, i: u64) -> Result<(), Reason>
     requires { i < 4096 }
-    ensures { Met (table (number_of kind) i) parser.old result parser.new }
+    ensures { Met (table (code_of kind) i) parser.old result parser.new }
 {
     let q = Names {
-        word: block::TABLES + Field::FIRST * i,
+        word: block::TABLES + block::FIRST * i,
     };
     let width = tri!(parser.escaped(q.word + leaf::SYMBOL_WIDTH_MINUS_ONE, [5, 8, 16])) + 1;
     if 12 < width {
@@ -81,9 +81,9 @@ fn table_count(parser: &mut Parser<'_>) -> Result<u64, Reason>
     parser.count(n + 1, 5)
 }
 
-// The tables.
+// So many of one kind, one after another.
 pub fn tables(parser: &mut Parser<'_>, kind: TableKind) -> Result<(), Reason>
-    ensures { Met (tables (number_of kind)) parser.old result parser.new }
+    ensures { Met (tables (code_of kind)) parser.old result parser.new }
 {
     let n = tri!(table_count(parser));
     parser.each(n, |parser, i| table(parser, kind, i))

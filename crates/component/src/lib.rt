@@ -3,12 +3,13 @@
 
 ghost use Rattle.std.specs.Prelude.{◌<◌, ◌^◌, IfOk};
 ghost use Rattle.parser.specs.Met.{Met};
-ghost use Rattle.component.specs.Component.{metadata_esc, metadata_number, second_parameter, both_parameters, component_parameters};
+ghost use Rattle.component.specs.Component.{metadata_esc, metadata_number, second_parameter};
+ghost use Rattle.component.specs.Component.{both_parameters, component_parameters};
 ghost use Rattle.component.specs.Component.{component_reference, channel_indices, channels, component};
 ghost use Rattle.component.specs.Component.{component_unless_default};
 
 use parser::{Parser, tri};
-use rules::{Field, Names, Reason, leaf};
+use rules::{Names, Reason, leaf};
 
 // `metadata_esc`: an escaped number of the widths that metadata has most often.
 pub fn metadata_esc(parser: &mut Parser<'_>, name: u64) -> Result<u64, Reason>
@@ -69,7 +70,7 @@ fn channel_indices(parser: &mut Parser<'_>, q: Names<38>, n: u64) -> Result<(), 
 {
     let n = tri!(parser.count(n, 4));
     parser.each(n, |parser, i| {
-        metadata_number(parser, q.word + leaf::CHANNEL_INDICES + Field::THIRD * i)
+        metadata_number(parser, q.word + leaf::CHANNEL_INDICES + leaf::THIRD * i)
     })
 }
 

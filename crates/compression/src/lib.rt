@@ -3,8 +3,9 @@
 
 ghost use Rattle.std.specs.Prelude.{◌≤◌, ◌<◌, ◌^◌};
 ghost use Rattle.parser.specs.Met.{Met};
-ghost use Rattle.code_tables.specs.Kind.{number_of};
-ghost use Rattle.compression.specs.Compression.{parameter, parameter_if_present, padding, padded_tables, contents, metadata_compression};
+ghost use Rattle.code_tables.specs.Kind.{code_of};
+ghost use Rattle.compression.specs.Compression.{parameter, parameter_if_present, padding};
+ghost use Rattle.compression.specs.Compression.{padded_tables, contents, metadata_compression};
 
 use code_tables::TableKind;
 use parser::{Parser, tri};
@@ -23,7 +24,7 @@ fn parameter(parser: &mut Parser<'_>) -> Result<(), Reason>
 
 // The parameter, if it is there: codewords have none.
 fn parameter_if_present(parser: &mut Parser<'_>, kind: TableKind) -> Result<(), Reason>
-    ensures { Met (parameter_if_present (number_of kind)) parser.old result parser.new }
+    ensures { Met (parameter_if_present (code_of kind)) parser.old result parser.new }
 {
     if let TableKind::Codewords = kind {
         return Ok(());
@@ -46,7 +47,7 @@ fn padding(parser: &mut Parser<'_>, start: usize) -> Result<(), Reason>
 // Types 1 to 3: tables, a parameter, and padding.
 fn padded_tables(parser: &mut Parser<'_>, kind: TableKind, start: usize) -> Result<(), Reason>
     requires { start ≤ parser.old.position }
-    ensures { Met (padded_tables (number_of kind) start) parser.old result parser.new }
+    ensures { Met (padded_tables (code_of kind) start) parser.old result parser.new }
 {
     tri!(code_tables::tables(parser, kind));
     tri!(parameter_if_present(parser, kind));

@@ -9,7 +9,7 @@ ghost use Rattle.configuration.specs.Configuration.{parameters_if_present, data_
 ghost use Rattle.configuration.specs.Configuration.{parameters_and_groups};
 
 use parser::{Parser, tri};
-use rules::{Field, Names, Reason, block, leaf};
+use rules::{Names, Reason, block, leaf};
 
 // A compression: its type, its bytes and what they hold.
 fn compression(parser: &mut Parser<'_>) -> Result<(), Reason>
@@ -36,7 +36,7 @@ fn parameter(parser: &mut Parser<'_>, i: u64) -> Result<(), Reason>
     ensures { Met (parameter i) parser.old result parser.new }
 {
     let p = Names {
-        word: block::PARAMETERS + Field::FIRST * i,
+        word: block::PARAMETERS + block::FIRST * i,
     };
     let kind = tri!(component::metadata_esc(parser, p.word + leaf::ID));
     global::metadata_global_parameter(parser, p, kind)
@@ -68,7 +68,7 @@ fn data_if_present(parser: &mut Parser<'_>, i: u64) -> Result<(), Reason>
     requires { i < 4097 }
     ensures { Met (data_if_present i) parser.old result parser.new }
 {
-    let present = block::GROUPS + Field::FIRST * i + leaf::DATA_PRESENT;
+    let present = block::GROUPS + block::FIRST * i + leaf::DATA_PRESENT;
     parser.if_flag(present, |parser| renderer::renderer_data(parser, i))
 }
 
@@ -78,7 +78,7 @@ fn group(parser: &mut Parser<'_>, i: u64) -> Result<(), Reason>
     ensures { Met (group i) parser.old result parser.new }
 {
     let q = Names {
-        word: block::GROUPS + Field::FIRST * i,
+        word: block::GROUPS + block::FIRST * i,
     };
     tri!(component::metadata_number(parser, q.word + leaf::ID));
     tri!(component::component_unless_default(parser, q));

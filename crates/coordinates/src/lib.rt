@@ -6,7 +6,7 @@ ghost use Rattle.parser.specs.Met.{Met};
 ghost use Rattle.coordinates.specs.Coordinates.{width_of, bases, how_many, widths_of, coordinate_values};
 
 use parser::Parser;
-use rules::{Field, Names, Reason, leaf};
+use rules::{Names, Reason, leaf};
 
 // A width: four bits narrower in a delta.
 pub fn width(base: usize, precision: usize, delta: bool) -> usize
@@ -35,7 +35,8 @@ fn widths(polar: bool, precision: usize, delta: bool) -> [usize; 3]
     [width(6, precision, delta); 3]
 }
 
-// How many of them are read.
+// How many of them are read. The radius of a polar delta has no bits for its size at precision 0, and its sign alone, which
+// would say nothing, is left out.
 fn how_many(polar: bool, precision: usize, delta: bool) -> usize
     ensures { result ≡ how_many polar precision delta }
 {
@@ -45,7 +46,7 @@ fn how_many(polar: bool, precision: usize, delta: bool) -> usize
     3
 }
 
-// The coordinates.
+// As many of the three as are there.
 pub fn coordinate_values(
     parser: &mut Parser<'_>,
     p: Names<38>,
@@ -58,5 +59,5 @@ pub fn coordinate_values(
 {
     let all = widths(polar, precision, delta);
     let count = how_many(polar, precision, delta);
-    parser.passive_values(p.word + leaf::POSITION_ENCODED, Field::THIRD, &all[..count])
+    parser.passive_values(p.word + leaf::POSITION_ENCODED, leaf::THIRD, &all[..count])
 }

@@ -31,7 +31,7 @@ use Rattle.update.specs.Update.{update_reading, UpdateAnswered}
 use Rattle.names.specs.NameAnswer.{name_question}
 use Rattle.exported.specs.declared.GatewayAnswer.{GatewayAnswer}
 use Rattle.gateway.specs.declared.GatewayScene.{GatewayScene}
-use Rattle.exported.specs.Exported.{told, Exported}
+use Rattle.exported.specs.Exported.{gateway_answer, Exported}
 use Rattle.gateway.specs.Exported.{SceneExported, NameExported}
 use Rattle.known_names.specs.Known.{Explained}
 use Rattle.known_names.proofs.Update.{update_known}
@@ -40,9 +40,9 @@ use Rattle.book.specs.Book.{packet_of, is_accepted, book_scene, book_reading, sc
 use Rattle.book.proofs.Book.{first_many, scene_counts}
 use Rattle.show_header.specs.Header.{part_count, part_of, file_question}
 use Rattle.show_parts.specs.Parts.{packet}
-use Rattle.part.specs.declared.NotRead.{NotRead}
-use Rattle.part.specs.Part.{Listed, listed, shapes_before, part_from, update_listed, sound_listed, part_listed, PartAnswered}
-use Rattle.listings.proofs.Printed.{part_explained}
+use Rattle.part_fields.specs.declared.NotRead.{NotRead}
+use Rattle.part_fields.specs.Part.{Listed, listed, shapes_before, part_from, update_listed, sound_listed, part_listed, PartAnswered}
+use Rattle.listing_claims.proofs.Printed.{part_explained}
 use Rattle.demand_1.specs.Demand.{KeptFrom, Kept, SceneKept, UpdateKept, Validated, NameKept, Said, Crossed, PartKept, Demand1}
 use Rattle.demand_1.proofs.Kept.{entry_place, reading_kept, call_kept}
 use Rattle.demand_1.proofs.Texts.{name_kept, show_kept}
@@ -107,7 +107,7 @@ validation_kept count shapes at =
     (λ e. record { none = refl; back = λ h. absurd (omega (arith, leb-false count 63 e)); too_many = λ _. (refl, refl) })
 
 -- what is said of an answer crosses with it
-crosses : (P : Outcome → ℕ → ℕ → Type 0) {r : GatewayAnswer} {o : Outcome} {position counted : ℕ} → r ≡ told o position counted → P o position counted → Crossed P r
+crosses : (P : Outcome → ℕ → ℕ → Type 0) {r : GatewayAnswer} {o : Outcome} {position counted : ℕ} → r ≡ gateway_answer o position counted → P o position counted → Crossed P r
 crosses P {o = o} e p = rw e (record { outcome = o; code = refl; number = refl; said = p })
 
 exported_kept : {A : Type 0} {x : Reading A} {a v : A} {rec : Bool} {ws vs : List ℕ} {r : GatewayAnswer} (P : Outcome → ℕ → ℕ → Type 0) →

@@ -23,8 +23,8 @@ use Rattle.gateway.specs.Exported.{SceneExported, NameExported}
 use Rattle.known_names.specs.Known.{Explained}
 use Rattle.show_header.specs.Header.{part_of}
 use Rattle.show.specs.Show.{ShowAnswered}
-use Rattle.part.specs.declared.NotRead.{NotRead}
-use Rattle.part.specs.Part.{part_from, part_listed, PartAnswered}
+use Rattle.part_fields.specs.declared.NotRead.{NotRead}
+use Rattle.part_fields.specs.Part.{part_from, part_listed, PartAnswered}
 
 -- from place n on as it came
 abbrev pub KeptFrom : {A : Type 0} → ℕ → List A → List A → Type 0

@@ -14,7 +14,7 @@ use Rattle.positions.specs.Positions.{updated_position, position_at, positions}
 use Rattle.scene.specs.Scene.{scene_fields, scene_graph}
 use Rattle.update.specs.Update.{update_fields, graph_update, all_shaped}
 use Rattle.probability.specs.Probability.{add_float, floats}
-use Rattle.common.specs.Common.{number}
+use Rattle.common_resources.specs.Common.{number}
 use Rattle.lzw.specs.Lzw.{lzw, lzw_widths}
 use Rattle.compression.specs.Compression.{contents, metadata_compression}
 use Rattle.matrix.specs.Matrix as m
@@ -36,7 +36,7 @@ use Rattle.name_table.specs.Table.{blocks, leaves}
 use Rattle.name_row.specs.Row.{character, indexed}
 use Rattle.name_words.specs.NameText.{block_text, leaf_text, name_text}
 use Rattle.numbers.specs.Meaning.{meanings, up_to_bar, meaning}
-use Rattle.part.specs.Part.{shapes_before, update_listed, sound_listed, part_listed}
+use Rattle.part_fields.specs.Part.{shapes_before, update_listed, sound_listed, part_listed}
 use Rattle.field_text.specs.FieldText.{place_text, value_text}
 use Rattle.field_lines.specs.FieldLine.{field_line}
 use Rattle.outcome_lines.specs.OutcomeLine.{end_line, outcome_text}

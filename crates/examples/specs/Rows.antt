@@ -1,5 +1,5 @@
--- Document 01's worked examples as rows, with README's listings of its show, and the one claim that all of them hold of the
--- definitions.
+-- Document 01's worked examples as rows, with the listings of its show in docs/SCENE-FIELDS.md, and the one claim that all of
+-- them hold of the definitions.
 use Rattle.std.specs.Prelude.{ℕ, ◌*◌, ◌/◌, ◌%◌, ◌^◌, ◌≡◌, List, [], ◌∷◌, ◌++◌, map, false, length, take, replicate}
 use Prim.Native.String.{String}
 use Rattle.rules.specs.declared.Outcome.{Outcome}
@@ -16,8 +16,8 @@ use Rattle.book.specs.Book.{Packet, packet_of, input, book_scene, book_first, bo
 use Rattle.show_header.specs.Header.{file_question}
 use Rattle.show_parts.specs.Parts.{packet}
 use Rattle.show.specs.Show.{show_text, file_outcome}
-use Rattle.part.specs.Part.{part_listed}
-use Rattle.listings.specs.Printed.{part_listing}
+use Rattle.part_fields.specs.Part.{part_listed}
+use Rattle.listing_claims.specs.Printed.{part_listing}
 
 -- an example of each kind: what is read, from the first bit on and with recording off
 pub data Example : Type 0 where

@@ -13,11 +13,11 @@ outcome_code Read = 0
 outcome_code (Refused n) = 1
 outcome_code (Stopped n) = 2
 
-abbrev pub told : Outcome → ℕ → ℕ → GatewayAnswer
-told o position counted = record { outcome = outcome_code o; number = outcome_number o; position = position; counted = counted }
+abbrev pub gateway_answer : Outcome → ℕ → ℕ → GatewayAnswer
+gateway_answer o position counted = record { outcome = outcome_code o; number = outcome_number o; position = position; counted = counted }
 
 abbrev pub exported : Answer → GatewayAnswer
-exported a = told a.outcome a.position a.fields
+exported a = gateway_answer a.outcome a.position a.fields
 
 -- an answer of which a reading's promise holds, as it crosses
 pub record Exported {A : Type 0} (x : Reading A) (a : A) (rec : Bool) (ws : List ℕ) (r : GatewayAnswer) (v : A) (vs : List ℕ) : Type 0 where

@@ -3,7 +3,7 @@
 
 ghost use Rattle.std.specs.Prelude.{◌≡◌};
 ghost use Rattle.rules.specs.Answer.{outcome_number};
-ghost use Rattle.exported.specs.Exported.{outcome_code, told, exported};
+ghost use Rattle.exported.specs.Exported.{outcome_code, gateway_answer, exported};
 
 use rules::{Answer, Outcome};
 
@@ -40,8 +40,8 @@ fn outcome_number(outcome: Outcome) -> u64
 }
 
 // An answer as it crosses.
-pub fn told(outcome: Outcome, position: usize, counted: usize) -> GatewayAnswer
-    ensures { result ≡ told outcome position counted }
+pub fn gateway_answer(outcome: Outcome, position: usize, counted: usize) -> GatewayAnswer
+    ensures { result ≡ gateway_answer outcome position counted }
 {
     let code = outcome_code(outcome);
     let number = outcome_number(outcome);
@@ -57,5 +57,5 @@ pub fn exported(a: Answer) -> GatewayAnswer
     ensures { result ≡ exported a }
 {
     let outcome = a.outcome;
-    told(outcome, a.position, a.fields)
+    gateway_answer(outcome, a.position, a.fields)
 }

@@ -5,7 +5,7 @@ ghost use Rattle.parser.specs.Met.{Met};
 ghost use Rattle.extensions.specs.Extensions.{extension_body, extension, extensions, extensions_if_present};
 
 use parser::{Parser, tri};
-use rules::{Field, Names, Reason, leaf};
+use rules::{Names, Reason, leaf};
 
 // What follows the type of an extension: a payload, passed over.
 fn extension_body(parser: &mut Parser<'_>, q: Names<44>) -> Result<(), Reason>
@@ -36,7 +36,7 @@ fn extensions(parser: &mut Parser<'_>, p: Names<38>) -> Result<(), Reason>
         let more = tri!(extension(
             parser,
             Names {
-                word: p.word + Field::THIRD * i
+                word: p.word + leaf::THIRD * i
             }
         ));
         if !more {

@@ -8,7 +8,7 @@ use Rattle.std.specs.Prelude.{Option}
 use Rattle.rules.specs.declared.Field.{Field}
 use Rattle.rules.specs.declared.FieldValue.{FieldValue}
 use Rattle.rules.specs.declared.FieldValue.TheVariants.{Flag, Number, Bits, Bytes}
-use Rattle.rules.specs.Words.{number_of, field_at}
+use Rattle.rules.specs.Words.{word_of, field_at}
 use Rattle.text.specs.Text.{ascii, decimal, newline, Lined}
 use Rattle.text.proofs.Decimal.{decimal_most}
 use Rattle.text.proofs.Lines.{both_most, number_most}
@@ -28,7 +28,7 @@ pub field_most : (f : Field) → f.name < 2 ^ 64 → length (field_line f) ≤ 2
 unfolding field_line place_text value_text ascii
 field_most f h =
     let place = both_most (decimal f.bit_offset) (ascii " " ++ decimal f.bit_length) {m = 20} {n = 21} (decimal_most _) (number_most (ascii " ") _ {m = 1} (omega arith)) in
-    let value = both_most (ascii " " ++ decimal (number_of f.value)) (ascii (unit f.value)) {m = 21} {n = 7} (number_most (ascii " ") _ {m = 1} (omega arith)) (unit_most f.value) in
+    let value = both_most (ascii " " ++ decimal (word_of f.value)) (ascii (unit f.value)) {m = 21} {n = 7} (number_most (ascii " ") _ {m = 1} (omega arith)) (unit_most f.value) in
     let name = both_most (name_text f.name) newline {m = 128} {n = 1} (name_short f.name h) (omega arith) in
     let rest = both_most (value_text f.value) (name_text f.name ++ newline) value name in
     let most = both_most (place_text f) (value_text f.value ++ (name_text f.name ++ newline)) place rest in

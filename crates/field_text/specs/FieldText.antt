@@ -4,7 +4,7 @@ use Prim.Native.String.{String}
 use Rattle.rules.specs.declared.Field.{Field}
 use Rattle.rules.specs.declared.FieldValue.{FieldValue}
 use Rattle.rules.specs.declared.FieldValue.TheVariants.{Flag, Number, Bits, Bytes}
-use Rattle.rules.specs.Words.{number_of}
+use Rattle.rules.specs.Words.{word_of}
 use Rattle.text.specs.Text.{ascii, decimal}
 
 -- what stands between a value and the name: of a payload or a label its unit
@@ -18,4 +18,4 @@ unfoldable pub place_text : Field → List ℕ
 place_text f = decimal f.bit_offset ++ (ascii " " ++ decimal f.bit_length)
 
 unfoldable pub value_text : FieldValue → List ℕ
-value_text v = (ascii " " ++ decimal (number_of v)) ++ ascii (unit v)
+value_text v = (ascii " " ++ decimal (word_of v)) ++ ascii (unit v)

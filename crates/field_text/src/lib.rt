@@ -34,6 +34,6 @@ pub fn put_value(writer: &mut Writer<'_>, value: FieldValue)
     requires { Fits (value_text value) writer.old }
     ensures { Wrote (value_text value) writer.old writer.new }
 {
-    writer.put_number(b" ", value.number());
+    writer.put_number(b" ", value.word());
     writer.put(unit(value));
 }

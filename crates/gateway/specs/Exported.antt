@@ -7,7 +7,7 @@ use Rattle.scene.specs.Scene.{SceneAnswered}
 use Rattle.text.specs.declared.TextAnswer.{TextAnswer}
 use Rattle.names.specs.NameAnswer.{NameAnswered}
 use Rattle.exported.specs.declared.GatewayAnswer.{GatewayAnswer}
-use Rattle.exported.specs.Exported.{told, exported}
+use Rattle.exported.specs.Exported.{gateway_answer, exported}
 use Rattle.gateway.specs.declared.GatewayScene.{GatewayScene}
 
 pub record SceneExported (x : Reading (List PositionSyntax)) (rec : Bool) (ws : List ℕ) (r : GatewayScene) (vs : List ℕ) : Type 0 where
@@ -18,4 +18,4 @@ pub record SceneExported (x : Reading (List PositionSyntax)) (rec : Bool) (ws : 
 pub record NameExported (w number : ℕ) (bytes : List ℕ) (r : GatewayAnswer) (after : List ℕ) : Type 0 where
   pub answer : TextAnswer
   pub named : NameAnswered w number bytes answer after
-  pub same : r ≡ told answer.outcome answer.position answer.length
+  pub same : r ≡ gateway_answer answer.outcome answer.position answer.length

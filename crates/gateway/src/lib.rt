@@ -52,7 +52,9 @@ pub fn gateway_update(
     words: &mut [u64],
     shapes: &mut [PositionSyntax],
 ) -> GatewayAnswer
-    ensures { Exported (update_reading (input_of bytes.now recording words.old) offset (length shapes.old) shapes.old) shapes.old recording words.old result shapes.new words.new }
+    ensures { Exported
+        (update_reading (input_of bytes.now recording words.old) offset (length shapes.old) shapes.old)
+        shapes.old recording words.old result shapes.new words.new }
 {
     let a = lent::graph_update(bytes, offset, recording, &mut words[..], &mut shapes[..]);
     exported::exported(a)
@@ -67,7 +69,9 @@ pub fn gateway_position(
     shape: &mut PositionSyntax,
     full: bool,
 ) -> GatewayAnswer
-    ensures { Exported (position_reading (input_of bytes.now recording words.old) offset shape.old full) shape.old recording words.old result shape.new words.new }
+    ensures { Exported
+        (position_reading (input_of bytes.now recording words.old) offset shape.old full)
+        shape.old recording words.old result shape.new words.new }
 {
     let a = lent::read_position(bytes, offset, recording, &mut words[..], &mut *shape, full);
     exported::exported(a)
@@ -100,5 +104,5 @@ pub fn gateway_name(word: u64, bytes: &mut [u8]) -> GatewayAnswer
 {
     let a = names::name_text(word, bytes);
     let outcome = a.outcome;
-    exported::told(outcome, a.position, a.length)
+    exported::gateway_answer(outcome, a.position, a.length)
 }

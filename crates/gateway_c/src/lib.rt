@@ -39,7 +39,9 @@ pub extern "C" fn gateway_update(
     words: &mut [u64],
     shapes: &mut [PositionSyntax],
 ) -> GatewayAnswer
-    ensures { Exported (update_reading (input_of bytes.now recording words.old) offset (length shapes.old) shapes.old) shapes.old recording words.old result shapes.new words.new }
+    ensures { Exported
+        (update_reading (input_of bytes.now recording words.old) offset (length shapes.old) shapes.old)
+        shapes.old recording words.old result shapes.new words.new }
 {
     gateway::gateway_update(bytes, offset, recording, words, shapes)
 }
@@ -54,7 +56,9 @@ pub extern "C" fn gateway_position(
     shape: &mut PositionSyntax,
     full: bool,
 ) -> GatewayAnswer
-    ensures { Exported (position_reading (input_of bytes.now recording words.old) offset shape.old full) shape.old recording words.old result shape.new words.new }
+    ensures { Exported
+        (position_reading (input_of bytes.now recording words.old) offset shape.old full)
+        shape.old recording words.old result shape.new words.new }
 {
     gateway::gateway_position(bytes, offset, recording, words, shape, full)
 }

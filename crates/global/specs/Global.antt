@@ -4,7 +4,7 @@ use Rattle.rules.specs.Name.{third, fourth}
 use Rattle.rules.specs.Leaf as leaf
 use Rattle.rules.specs.Rule.{Rule, done, ◌>>=◌, ◌>>◌, pick}
 use Rattle.rules.specs.Derived.{◌⇒◌, choose, take, flag, escaped, passive_bits, passive_values, repeat}
-use Rattle.common.specs.Common.{number, number_unless, values, payload, metadata_resource}
+use Rattle.common_resources.specs.Common.{number, number_unless, values, payload, metadata_resource}
 use Rattle.default_position.specs.DefaultPosition.{default_position}
 use Rattle.headphones.specs.Headphones.{headphones}
 use Rattle.hrtf.specs.Hrtf.{hrtf}

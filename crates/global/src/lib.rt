@@ -8,7 +8,7 @@ ghost use Rattle.global.specs.Global.{gain_values, gain, item, items, mask, mask
 ghost use Rattle.global.specs.Global.{predefined_index, resource_reference, predefined, metadata_global_parameter};
 
 use parser::{Parser, tri};
-use rules::{Field, Names, Reason, leaf};
+use rules::{Names, Reason, leaf};
 
 // Kind 5: the four values of a gain, Cartesian or not.
 fn gain_values(parser: &mut Parser<'_>, p: Names<38>) -> Result<(), Reason>
@@ -17,10 +17,10 @@ fn gain_values(parser: &mut Parser<'_>, p: Names<38>) -> Result<(), Reason>
     let cartesian = tri!(parser.flag(p.word + leaf::CARTESIAN));
     if cartesian {
         let widths: [usize; 4] = [8, 8, 8, 7];
-        return common::values(parser, p.word + leaf::GLOBAL_VALUES, &widths);
+        return common_resources::values(parser, p.word + leaf::GLOBAL_VALUES, &widths);
     }
     let widths: [usize; 4] = [9, 8, 7, 8];
-    common::values(parser, p.word + leaf::GLOBAL_VALUES, &widths)
+    common_resources::values(parser, p.word + leaf::GLOBAL_VALUES, &widths)
 }
 
 // A gain, its range and four values.
@@ -28,7 +28,7 @@ fn gain(parser: &mut Parser<'_>, p: Names<38>) -> Result<(), Reason>
     ensures { Met (gain p.word) parser.old result parser.new }
 {
     tri!(parser.take(p.word + leaf::GAIN_ENCODED, 8));
-    tri!(common::number_unless(
+    tri!(common_resources::number_unless(
         parser,
         p.word + leaf::UNIT_RANGE,
         p.word + leaf::RANGE_ENCODED,
@@ -42,11 +42,11 @@ fn item(parser: &mut Parser<'_>, p: Names<38>, i: u64) -> Result<(), Reason>
     requires { i < 9 }
     ensures { Met (item p.word i) parser.old result parser.new }
 {
-    let default = p.word + leaf::ITEM_DEFAULT + Field::THIRD * i;
-    let encoded = p.word + leaf::ITEM_ENCODED + Field::THIRD * i;
+    let default = p.word + leaf::ITEM_DEFAULT + leaf::THIRD * i;
+    let encoded = p.word + leaf::ITEM_ENCODED + leaf::THIRD * i;
     parser.unless_flag(
         default,
-        |parser| parser.passive_values(encoded, Field::FOURTH, &[7; 5]),
+        |parser| parser.passive_values(encoded, leaf::FOURTH, &[7; 5]),
     )
 }
 
@@ -70,7 +70,7 @@ fn masked_items(parser: &mut Parser<'_>, p: Names<38>) -> Result<(), Reason>
     ensures { Met (masked_items p.word) parser.old result parser.new }
 {
     let widths: [usize; 3] = [2, 2, 3];
-    tri!(common::values(parser, p.word + leaf::GLOBAL_VALUES, &widths));
+    tri!(common_resources::values(parser, p.word + leaf::GLOBAL_VALUES, &widths));
     tri!(items(parser, p));
     mask(parser, p)
 }
@@ -90,7 +90,7 @@ fn resource_reference(parser: &mut Parser<'_>, p: Names<38>) -> Result<(), Reaso
     let resource = Names {
         word: p.word + leaf::RESOURCE,
     };
-    tri!(common::metadata_resource(parser, resource));
+    tri!(common_resources::metadata_resource(parser, resource));
     tri!(parser.escaped(p.word + leaf::PARAMETER_0, [3, 6, 10]));
     tri!(parser.escaped(p.word + leaf::PARAMETER_1, [4, 8, 16]));
     Ok(())
@@ -116,29 +116,29 @@ pub fn metadata_global_parameter(
     ensures { Met (metadata_global_parameter p.word kind) parser.old result parser.new }
 {
     match kind {
-        0 | 1 | 2 => common::number(parser, p.word + leaf::ENCODED, 1),
-        3 => common::number(parser, p.word + leaf::ENCODED, 5),
+        0 | 1 | 2 => common_resources::number(parser, p.word + leaf::ENCODED, 1),
+        3 => common_resources::number(parser, p.word + leaf::ENCODED, 5),
         4 => {
             let widths: [usize; 8] = [3, 8, 8, 8, 3, 8, 8, 8];
-            common::values(parser, p.word + leaf::GLOBAL_VALUES, &widths)
+            common_resources::values(parser, p.word + leaf::GLOBAL_VALUES, &widths)
         }
         5 => gain(parser, p),
         6 => masked_items(parser, p),
         7 => hrtf::hrtf(parser, p),
-        8 => common::metadata_resource(parser, Names { word: p.word }),
+        8 => common_resources::metadata_resource(parser, Names { word: p.word }),
         9 => speakers::labelled_layout(parser, p),
         10 => {
             let widths: [usize; 5] = [3, 32, 32, 32, 1];
-            common::values(parser, p.word + leaf::GLOBAL_VALUES, &widths)
+            common_resources::values(parser, p.word + leaf::GLOBAL_VALUES, &widths)
         }
         11 => default_position::default_position(parser, p),
         12 => predefined(parser, p),
-        13 => common::number(parser, p.word + leaf::ENCODED, 6),
+        13 => common_resources::number(parser, p.word + leaf::ENCODED, 6),
         14 => {
             let widths: [usize; 2] = [4, 8];
-            common::values(parser, p.word + leaf::GLOBAL_VALUES, &widths)
+            common_resources::values(parser, p.word + leaf::GLOBAL_VALUES, &widths)
         }
         15 => headphones::headphones(parser, p),
-        _ => common::payload(parser, p),
+        _ => common_resources::payload(parser, p),
     }
 }

@@ -4,7 +4,7 @@ use Rattle.rules.specs.Name.{third}
 use Rattle.rules.specs.Leaf as leaf
 use Rattle.rules.specs.Rule.{Rule, refused, ◌>>=◌, ◌>>◌, position}
 use Rattle.rules.specs.Derived.{take, passive_bits, demand, repeat}
-use Rattle.common.specs.Common.{number}
+use Rattle.common_resources.specs.Common.{number}
 
 -- kind 15: headphone channels. Their declared bytes are counted from the count of channels on, and padding fills them.
 unfoldable pub channels : ℕ → ℕ → Rule (Unit {0})

@@ -7,7 +7,7 @@ ghost use Rattle.parser.specs.Met.{Met};
 ghost use Rattle.headphones.specs.Headphones.{channels, padding, padded_channels, headphone_channels, headphones};
 
 use parser::{Parser, tri};
-use rules::{Field, Names, Reason, leaf};
+use rules::{Names, Reason, leaf};
 
 // Kind 15: so many headphone channels.
 fn channels(parser: &mut Parser<'_>, p: Names<38>, n: u64) -> Result<(), Reason>
@@ -15,7 +15,7 @@ fn channels(parser: &mut Parser<'_>, p: Names<38>, n: u64) -> Result<(), Reason>
     ensures { Met (channels p.word n) parser.old result parser.new }
 {
     parser.each(n, |parser, i| {
-        common::number(parser, p.word + leaf::CHANNELS + Field::THIRD * i, 3)
+        common_resources::number(parser, p.word + leaf::CHANNELS + leaf::THIRD * i, 3)
     })
 }
 

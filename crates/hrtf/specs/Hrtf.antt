@@ -3,7 +3,7 @@ use Rattle.std.specs.Prelude.{ℕ, ◌+◌, [], ◌∷◌}
 use Rattle.rules.specs.Leaf as leaf
 use Rattle.rules.specs.Rule.{Rule, done, ◌>>=◌, ◌>>◌}
 use Rattle.rules.specs.Derived.{◌⇒◌, choose, take, stop}
-use Rattle.common.specs.Common.{number, number_if, metadata_resource}
+use Rattle.common_resources.specs.Common.{number, number_if, metadata_resource}
 
 -- kind 7: a head-related transfer function, whose types above 1 are stopped
 unfoldable pub hrtf_resource : ℕ → Rule (Unit {0})

@@ -15,7 +15,7 @@ fn hrtf_resource(parser: &mut Parser<'_>, p: Names<38>) -> Result<(), Reason>
     let resource = Names {
         word: p.word + leaf::RESOURCE,
     };
-    tri!(common::metadata_resource(parser, resource));
+    tri!(common_resources::metadata_resource(parser, resource));
     tri!(parser.take(p.word + leaf::MODE, 3));
     Err(Reason::HrtfType2)
 }
@@ -26,7 +26,7 @@ fn hrtf_type(parser: &mut Parser<'_>, p: Names<38>, kind: u64) -> Result<(), Rea
 {
     match kind {
         0 => Ok(()),
-        1 => common::number(parser, p.word + leaf::INDEX, 8),
+        1 => common_resources::number(parser, p.word + leaf::INDEX, 8),
         2 => hrtf_resource(parser, p),
         _ => Err(Reason::HrtfType),
     }
@@ -36,7 +36,7 @@ fn hrtf_type(parser: &mut Parser<'_>, p: Names<38>, kind: u64) -> Result<(), Rea
 pub fn hrtf(parser: &mut Parser<'_>, p: Names<38>) -> Result<(), Reason>
     ensures { Met (hrtf p.word) parser.old result parser.new }
 {
-    tri!(common::number_if(
+    tri!(common_resources::number_if(
         parser,
         p.word + leaf::VALUE_PRESENT,
         p.word + leaf::VALUE_ENCODED,

@@ -24,7 +24,8 @@ pub fn read_input<R: Read>(reader: &mut R, bytes: &mut [u8]) -> Result<usize, Fa
     ensures ended { IfOk result (λ n. n < length bytes.new → IsAtEnd (R.remaining reader.new)) }
     ensures failed_in_bounds { IfErr result (λ failed. failed.length ≤ length bytes.new) }
     ensures failed_prefix { IfErr result (λ failed. failed.length ≡ length (take failed.length bytes.new)) }
-    ensures failed_read { IfErr result (λ failed. Consumes (R.remaining reader.old) (R.remaining reader.new) (take failed.length bytes.new)) }
+    ensures failed_read { IfErr result
+        (λ failed. Consumes (R.remaining reader.old) (R.remaining reader.new) (take failed.length bytes.new)) }
 {
     let mut length = 0;
     while length < bytes.len() {

@@ -1,4 +1,4 @@
--- The words of every call that records: each counted field is read back from them with a known name.
+-- The words of the readings by value: each field that they count and record is read back from them with a known name.
 use Prim.Native.Nat.{ℕ, zero, suc, ◌+◌, ◌*◌, ◌<◌, ◌≤◌}
 use mathlib.Core.Path.{◌≡◌, refl, ap}
 use mathlib.Core.List.{List, [], ◌∷◌, ◌++◌}

@@ -7,7 +7,7 @@ use native.Mathlib.Omega.{arith}
 use lib.Dec.{leb}
 use lib.ListN.{length}
 use Rattle.rules.specs.Leaf as leaf
-use Rattle.common.specs.Common.{number, number_if, number_unless, values, payload, resource_parameters, metadata_resource, reverb_parameter, reverb_parameters, metadata_reverb}
+use Rattle.common_resources.specs.Common.{number, number_if, number_unless, values, payload, resource_parameters, metadata_resource, reverb_parameter, reverb_parameters, metadata_reverb}
 use Rattle.default_position.specs.DefaultPosition.{default_position}
 use Rattle.laws.proofs.Named.{names_fold, names_passive_values}
 use Rattle.known_names.specs.Known.{Known, KnownNames}

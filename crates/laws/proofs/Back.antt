@@ -12,18 +12,18 @@ use Rattle.std.specs.Prelude.{Some}
 use Rattle.rules.specs.declared.Field.{Field}
 use Rattle.rules.specs.declared.FieldValue.{FieldValue}
 use Rattle.rules.specs.declared.FieldValue.TheVariants.{Flag, Number, Bits, Bytes}
-use Rattle.rules.specs.Words.{kind_of, number_of, words_of, encoded, recorded, is_value, value_from, field_at}
+use Rattle.rules.specs.Words.{kind_of, word_of, words_of, encoded, recorded, is_value, value_from, field_at}
 use Rattle.rules.proofs.Words.{encoded_append, encoded_length}
 use Rattle.laws.proofs.Front.{recorded_front}
 
-is_value_lem : (v : FieldValue) → is_value (kind_of v) (number_of v) ≡ true
+is_value_lem : (v : FieldValue) → is_value (kind_of v) (word_of v) ≡ true
 is_value_lem (Flag true) = refl
 is_value_lem (Flag false) = refl
 is_value_lem (Number n) = refl
 is_value_lem (Bits n) = refl
 is_value_lem (Bytes n) = refl
 
-value_back : (v : FieldValue) → value_from (kind_of v) (number_of v) ≡ v
+value_back : (v : FieldValue) → value_from (kind_of v) (word_of v) ≡ v
 value_back (Flag true) = refl
 value_back (Flag false) = refl
 value_back (Number n) = refl

@@ -1,7 +1,7 @@
 -- Rules that make a field of all bits that they read, in order, each bit once.
-use Rattle.std.specs.Prelude.{ℕ, ◌+◌, ◌≤◌, ◌≡◌, List, [], ◌∷◌}
+use Rattle.std.specs.Prelude.{ℕ, ◌+◌, ◌≤◌, ◌≡◌, ◌⊎◌, List, [], ◌∷◌}
 use Rattle.rules.specs.declared.Field.{Field}
-use Rattle.rules.specs.Rule.{Rule, done, ends, position_then, end_then, bits_then, skip_then, field_then, set_end_then}
+use Rattle.rules.specs.Rule.{Rule, done, ends, position_then, end_then, bits_then, skip_then, field_then, set_end_then, End}
 use Rattle.rules.specs.Reading.{Reading, Result, read, ended}
 
 -- from the position `p`, with the bits from `f` on not yet in a field
@@ -37,3 +37,12 @@ pub record Covered {A : Type 0} (f : ℕ) (x : Reading A) : Type 0 where
   pub up_to : ℕ
   pub covers : Covers f x.fields up_to
   pub reaches : Reaches x.result up_to x.position
+
+-- of a whole call: from its offset on, or no field at all where a question of the call is not met
+pub record Fieldless {A : Type 0} (x : Reading A) : Type 0 where
+  pub none : x.fields ≡ []
+  pub how : End
+  pub ended_so : x.result ≡ ended how
+
+abbrev pub CallCovered : {A : Type 0} → ℕ → Reading A → Type 0
+CallCovered offset x = Fieldless x ⊎ Covered offset x

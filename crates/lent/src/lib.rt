@@ -1,5 +1,9 @@
-// Shapes that a caller lends: the readings over `&mut PositionSyntax` and `&mut [PositionSyntax]`. Unless the reading was accepted
-// they stay as they came.
+// Shapes that a caller lends: the readings over `&mut PositionSyntax` and `&mut [PositionSyntax]`.
+//
+// A reading can be refused at its last bit, and for its parents after that, when all shapes are read. So an update is read into
+// a copy, and the lent shapes are written once it is accepted: until then no part of it can be seen in them. Each call promises
+// what the reading by value does (`Answered`), with what it leaves in the lent shapes as its value: those of the rule if it was
+// read, and otherwise, in every place, what was there before.
 #![tactic(auto)]
 
 ghost use Rattle.std.specs.Prelude.{◌≡◌, ◌≤◌, length, take};
@@ -45,7 +49,9 @@ pub fn read_position(
     shape: &mut PositionSyntax,
     full: bool,
 ) -> Answer
-    ensures { Answered (position_reading (input_of bytes.now recording words.old) offset shape.old full) shape.old recording words.old result shape.new words.new }
+    ensures { Answered
+        (position_reading (input_of bytes.now recording words.old) offset shape.old full)
+        shape.old recording words.old result shape.new words.new }
 {
     let read = position_alone::read_position(bytes, offset, recording, words, *shape, full);
     *shape = read.shape;
@@ -60,7 +66,9 @@ pub fn graph_update(
     words: &mut [u64],
     shapes: &mut [PositionSyntax],
 ) -> Answer
-    ensures { Answered (update_reading (input_of bytes.now recording words.old) offset (length shapes.old) shapes.old) shapes.old recording words.old result shapes.new words.new }
+    ensures { Answered
+        (update_reading (input_of bytes.now recording words.old) offset (length shapes.old) shapes.old)
+        shapes.old recording words.old result shapes.new words.new }
 {
     let mut next = array_of(shapes);
     let count = shapes.len();

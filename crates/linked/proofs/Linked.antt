@@ -26,7 +26,7 @@ use Rattle.probability.proofs.Linked as in_probability
 use Rattle.code_tables.proofs.Linked as in_code_tables
 use Rattle.lzw.proofs.Linked as in_lzw
 use Rattle.compression.proofs.Linked as in_compression
-use Rattle.common.proofs.Linked as in_common
+use Rattle.common_resources.proofs.Linked as in_common
 use Rattle.default_position.proofs.Linked as in_default_position
 use Rattle.bands.proofs.Linked as in_bands
 use Rattle.radiation.proofs.Linked as in_radiation
@@ -55,7 +55,7 @@ use Rattle.show_header.proofs.Linked as in_show_header
 use Rattle.show_parts.proofs.Linked as in_show_parts
 use Rattle.show_lines.proofs.Linked as in_show_lines
 use Rattle.show.proofs.Linked as in_show
-use Rattle.part.proofs.Linked as in_part
+use Rattle.part_fields.proofs.Linked as in_part
 use Rattle.field_lines.proofs.field_line.Symbol.{code as field_code}
 use Rattle.outcome_lines.proofs.outcome_line.Symbol.{code as outcome_code}
 use Rattle.show.proofs.show.Symbol.{code as show_code}
@@ -98,22 +98,22 @@ linked =
     (codes "bits", _) ∷ (codes "rules", _) ∷ (codes "parser", _) ∷ (codes "extensions", _) ∷ (codes "coordinates", _) ∷
     (codes "position", _) ∷ (codes "position_alone", _) ∷ (codes "ranks", _) ∷ (codes "validation", _) ∷ (codes "positions", _) ∷
     (codes "scene", _) ∷ (codes "update", _) ∷ (codes "lent", _) ∷ (codes "probability", _) ∷ (codes "code_tables", _) ∷
-    (codes "lzw", _) ∷ (codes "compression", _) ∷ (codes "common", _) ∷ (codes "default_position", _) ∷ (codes "bands", _) ∷
+    (codes "lzw", _) ∷ (codes "compression", _) ∷ (codes "common_resources", _) ∷ (codes "default_position", _) ∷ (codes "bands", _) ∷
     (codes "radiation", _) ∷ (codes "matrix", _) ∷ (codes "scene_reverb", _) ∷ (codes "renderer_kinds", _) ∷ (codes "renderer", _) ∷
     (codes "headphones", _) ∷ (codes "hrtf", _) ∷ (codes "speakers", _) ∷ (codes "global", _) ∷ (codes "component", _) ∷
     (codes "configuration", _) ∷ (codes "metadata", _) ∷ (codes "text", _) ∷ (codes "name_table", _) ∷ (codes "name_row", _) ∷
     (codes "name_words", _) ∷ (codes "numbers", _) ∷ (codes "field_text", _) ∷ (codes "field_lines", _) ∷
     (codes "outcome_lines", _) ∷ (codes "exported", _) ∷ (codes "gateway", _) ∷ (codes "show_header", _) ∷ (codes "show_parts", _) ∷
-    (codes "show_lines", _) ∷ (codes "show", _) ∷ (codes "part", _) ∷ [] in
+    (codes "show_lines", _) ∷ (codes "show", _) ∷ (codes "part_fields", _) ∷ [] in
     let bits_read = in_bits.read W refl tt in
     let rules_field_at = in_rules.field_at W refl tt in
     let rules_field_value_kind = in_rules.field_value_kind W refl tt in
-    let rules_field_value_number = in_rules.field_value_number W refl tt in
+    let rules_field_value_word = in_rules.field_value_word W refl tt in
     let rules_outcome_is_read = in_rules.outcome_is_read W refl tt in
     let rules_outcome_from_reason = in_rules.outcome_from_reason W refl tt in
     let rules_outcome_from_result = in_rules.outcome_from_result W refl tt in
     let rules_reason_number = in_rules.reason_number W refl tt in
-    let parser_below = bits_read & rules_field_value_kind & rules_field_value_number & rules_outcome_from_result & tt in
+    let parser_below = bits_read & rules_field_value_kind & rules_field_value_word & rules_outcome_from_result & tt in
     let parser_answer = in_parser.parser_answer W refl parser_below in
     let parser_count = in_parser.parser_count W refl parser_below in
     let parser_drc_count = in_parser.parser_drc_count W refl parser_below in
@@ -256,7 +256,7 @@ linked =
     let name_words_put_name = in_name_words.put_name W refl name_words_below in
     let numbers_put_meaning = in_numbers.put_meaning W refl (text_writer_put & text_table_row_or_first & tt) in
     let field_text_below =
-    rules_field_value_number & text_writer_put & text_writer_put_decimal & text_writer_put_number & tt in
+    rules_field_value_word & text_writer_put & text_writer_put_decimal & text_writer_put_number & tt in
     let field_text_put_place = in_field_text.put_place W refl field_text_below in
     let field_text_put_value = in_field_text.put_value W refl field_text_below in
     let field_lines_field_line = in_field_lines.field_line W refl

@@ -3,7 +3,7 @@ use Rattle.std.specs.Prelude.{ℕ, ◌+◌, ◌*◌, ◌%◌, ◌<◌, ◌≡◌
 use Rattle.rules.specs.Leaf as leaf
 use Rattle.rules.specs.Rule.{Rule, ◌>>=◌, ◌>>◌, pick}
 use Rattle.rules.specs.Derived.{◌⇒◌, choose, take, flag, passive_bits, invalid}
-use Rattle.common.specs.Common.{resource_parameters}
+use Rattle.common_resources.specs.Common.{resource_parameters}
 
 -- kind 22: how many coefficients a matrix has, by the low half of its layout and its order
 abbrev pub coefficient_count : ℕ → ℕ → ℕ

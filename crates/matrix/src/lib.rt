@@ -67,7 +67,7 @@ pub fn matrix(parser: &mut Parser<'_>, q: Names<38>) -> Result<(), Reason>
 {
     let location = tri!(parser.take(q.word + leaf::LOCATION, 2));
     match location {
-        0 | 2 => common::resource_parameters(parser, Names { word: q.word }),
+        0 | 2 => common_resources::resource_parameters(parser, Names { word: q.word }),
         1 => matrix_coefficients(parser, q),
         _ => Err(Reason::MatrixLocation),
     }

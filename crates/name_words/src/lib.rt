@@ -5,7 +5,7 @@ ghost use Rattle.std.specs.Prelude.{◌≡◌};
 ghost use Rattle.text.specs.Writer.{Fits, Wrote};
 ghost use Rattle.name_words.specs.NameText.{known, name_text};
 
-use rules::Field;
+use rules::{block, leaf};
 use text::Writer;
 
 // How many values a word has room for in each index.
@@ -20,10 +20,10 @@ pub fn known(word: u64) -> bool
     let stands = name_row::stands_in(leaf, (word / 256 % 16) as u8);
     let block_fits = name_row::in_range(
         block,
-        word / Field::FIRST % INDICES,
-        word / Field::SECOND % INDICES,
+        word / block::FIRST % INDICES,
+        word / block::SECOND % INDICES,
     );
-    let leaf_fits = name_row::in_range(leaf, word / Field::THIRD % INDICES, word / Field::FOURTH);
+    let leaf_fits = name_row::in_range(leaf, word / leaf::THIRD % INDICES, word / leaf::FOURTH);
     stands & (block_fits & leaf_fits)
 }
 
@@ -35,14 +35,14 @@ pub fn put_name(writer: &mut Writer<'_>, word: u64)
     name_row::put_row(
         writer,
         name_table::block_row(word),
-        word / Field::FIRST % INDICES,
-        word / Field::SECOND % INDICES,
+        word / block::FIRST % INDICES,
+        word / block::SECOND % INDICES,
     );
     writer.put_byte(b'.');
     name_row::put_row(
         writer,
         name_table::leaf_row(word),
-        word / Field::THIRD % INDICES,
-        word / Field::FOURTH,
+        word / leaf::THIRD % INDICES,
+        word / leaf::FOURTH,
     );
 }

@@ -8,8 +8,11 @@ use Rattle.text.specs.Text.{ascii, decimal, newline, line}
 use Rattle.numbers.specs.Meaning.{meaning}
 
 -- a refusal or a stop: the number, the bit position, and what the number means
+abbrev pub ended_text : List ℕ → ℕ → ℕ → List ℕ
+ended_text word n position = (word ++ decimal n) ++ ((ascii " at " ++ decimal position) ++ (ascii ": " ++ (meaning n ++ newline)))
+
 unfoldable pub end_line : String → ℕ → ℕ → List ℕ
-end_line word n position = (ascii word ++ decimal n) ++ ((ascii " at " ++ decimal position) ++ (ascii ": " ++ (meaning n ++ newline)))
+end_line word n position = ended_text (ascii word) n position
 
 -- the outcome: read with its end and count, or refused or stopped
 unfoldable pub outcome_text : Outcome → ℕ → ℕ → List ℕ

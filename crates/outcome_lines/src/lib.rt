@@ -1,19 +1,17 @@
 // The line that `scene-fields` prints of a reading's outcome.
 #![tactic(auto)]
 
-ghost use Rattle.std.specs.Prelude.{◌++◌};
-ghost use Rattle.text.specs.Text.{ascii, decimal, newline, Lined};
+ghost use Rattle.text.specs.Text.{Lined};
 ghost use Rattle.text.specs.Writer.{Fits, Wrote};
-ghost use Rattle.numbers.specs.Meaning.{meaning};
-ghost use Rattle.outcome_lines.specs.OutcomeLine.{outcome_line};
+ghost use Rattle.outcome_lines.specs.OutcomeLine.{ended_text, outcome_line};
 
 use rules::{Answer, Outcome};
 use text::Writer;
 
 // Puts the line of a reading that was refused or stopped: its number, its bit position, and what the number means.
 fn put_ended(writer: &mut Writer<'_>, word: &[u8], number: u16, position: u64)
-    requires { Fits ((word.now ++ decimal number) ++ ((ascii " at " ++ decimal position) ++ (ascii ": " ++ (meaning number ++ newline)))) writer.old }
-    ensures { Wrote ((word.now ++ decimal number) ++ ((ascii " at " ++ decimal position) ++ (ascii ": " ++ (meaning number ++ newline)))) writer.old writer.new }
+    requires { Fits (ended_text word.now number position) writer.old }
+    ensures { Wrote (ended_text word.now number position) writer.old writer.new }
 {
     writer.put_number(word, number as u64);
     writer.put_number(b" at ", position);

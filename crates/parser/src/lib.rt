@@ -1,6 +1,13 @@
 // The Rust's `Parser`, and the `BitReader` in it: the bytes, the window that is read of them, the fields counted, and the lent
-// words that they are written into. Each method is the Rust's of that name and promises its rule, but for `each`, `if_flag`
-// and `unless_flag`, which are handed what is read.
+// words that they are written into. Each method is the Rust's of that name.
+//
+// What a method promises is `Met` of its rule (specs/Met.antt): the parser goes from where it stands as `reading` says, to the
+// same value or end, position, end of the window and count, with every lent word as it should be, over the same bytes and words.
+// After an `Err` the parser tells where the reading ended and after how many fields; nothing here reads on.
+//
+// `each`, `if_flag` and `unless_flag` are handed what is to be read as a closure, and promise the rule of the whole to whoever
+// shows the rule of one call (specs/Each.antt). The ghost fields keep position and end small enough to be added to, so that no
+// reading asks its caller for that.
 #![tactic(auto)]
 
 ghost use Rattle.std.specs.Prelude.{◌≡◌, ◌≤◌, ◌<◌, ◌+◌, ◌*◌, ◌^◌, IfOk, ◌&&◌, leb, length};
@@ -44,7 +51,7 @@ fn put(words: &mut [u64], k: usize, field: Field)
     words[k] = field.bit_offset as u64;
     words[k + 1] = field.bit_length as u64;
     words[k + 2] = field.value.kind();
-    words[k + 3] = field.value.number();
+    words[k + 3] = field.value.word();
     words[k + 4] = field.name;
 }
 
@@ -66,7 +73,8 @@ fn fits(n: u64, least: u64, left: u64) -> bool
 
 impl<'a> Parser<'a> {
     ghost use Rattle.rules.specs.Rule.{bits, skip, set_end, field};
-    ghost use Rattle.rules.specs.Derived.{take, flag, parts, escaped, passive_bits, passive_values, label_bytes, label, count, drc_count};
+    ghost use Rattle.rules.specs.Derived.{take, flag, parts, escaped, passive_bits};
+    ghost use Rattle.rules.specs.Derived.{passive_values, label_bytes, label, count, drc_count};
     ghost use Rattle.parser.specs.Met.{Met};
     ghost use Rattle.parser.specs.Begun.{Begun, entered};
     ghost use Rattle.rules.specs.Answer.{ended_as};
@@ -213,7 +221,7 @@ impl<'a> Parser<'a> {
         Ok(value)
     }
 
-    // A flag.
+    // A field of one bit.
     pub fn flag(&mut self, name: u64) -> Result<bool, Reason>
         ensures { Met (flag name) self.old result self.new }
     {

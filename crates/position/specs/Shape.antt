@@ -1,4 +1,4 @@
--- The shape of one position, and how it is made: no other definition builds one.
+-- The shape of one position, and how the rules make it: they build none in any other way.
 use Rattle.std.specs.Prelude.{ℕ, Bool, false}
 use Rattle.position.specs.declared.PositionSyntax.{PositionSyntax}
 

@@ -4,11 +4,13 @@
 ghost use Rattle.std.specs.Prelude.{◌≡◌, ◌≤◌, IfOk};
 ghost use Rattle.parser.specs.Met.{Met};
 ghost use Rattle.position.specs.Shape.{default, with_dynamics, with_precisions, with_parent, with_polar};
-ghost use Rattle.position.specs.Position.{precision_of, dynamics, precisions, header, changed, new_parent, parent, range, flag_unless, coordinates, coordinates_if_present, rotation_values, rotation, before_range, after_range, position};
+ghost use Rattle.position.specs.Position.{precision_of, dynamics, precisions, header, changed, new_parent};
+ghost use Rattle.position.specs.Position.{parent, range, flag_unless, coordinates, coordinates_if_present, rotation_values};
+ghost use Rattle.position.specs.Position.{rotation, before_range, after_range, position};
 ghost use Rattle.position.specs.Formed.{Shaped, is_shaped, Remade};
 
 use parser::{Parser, tri};
-use rules::{Field, Names, Reason, leaf};
+use rules::{Names, Reason, leaf};
 
 // The encoding shape of one scene position, which crosses to C as it is.
 #[repr(C)]
@@ -189,7 +191,7 @@ fn parent(
     Ok(shape)
 }
 
-// The range.
+// The range, which no shape holds.
 fn range(parser: &mut Parser<'_>, p: Names<38>, dynamic: bool, full: bool) -> Result<(), Reason>
     ensures { Met (range p.word dynamic full) parser.old result parser.new }
 {
@@ -256,7 +258,7 @@ fn rotation_values(
     ensures { Met (rotation_values p.word precision delta) parser.old result parser.new }
 {
     let widths = [coordinates::width(8, precision, delta); 4];
-    parser.passive_values(p.word + leaf::ROTATION_ENCODED, Field::THIRD, &widths)
+    parser.passive_values(p.word + leaf::ROTATION_ENCODED, leaf::THIRD, &widths)
 }
 
 // The rotation, if it is there.

@@ -40,7 +40,9 @@ fn entered(
     shape: PositionSyntax,
     full: bool,
 ) -> Result<PositionSyntax, Reason>
-    ensures { Met (entry_then (length parser.old.bytes.now) (shape_question shape) offset (position (positions 0) shape full)) parser.old result parser.new }
+    ensures { Met
+        (entry_then (length parser.old.bytes.now) (shape_question shape) offset (position (positions 0) shape full))
+        parser.old result parser.new }
 {
     tri!(parser.entry(shape_question(shape), offset));
     let first = Names {
@@ -58,7 +60,9 @@ pub fn read_position(
     shape: PositionSyntax,
     full: bool,
 ) -> PositionAnswer
-    ensures { Answered (position_reading (input_of bytes.now recording words.old) offset shape full) shape recording words.old result.answer result.shape words.new }
+    ensures { Answered
+        (position_reading (input_of bytes.now recording words.old) offset shape full)
+        shape recording words.old result.answer result.shape words.new }
 {
     let mut parser = Parser::new(bytes, words, recording, 0);
     match entered(&mut parser, offset, shape, full) {

@@ -11,7 +11,7 @@ ghost use Rattle.positions.specs.Positions.{updated_position, position_at, posit
 
 use parser::{Parser, tri};
 use position::PositionSyntax;
-use rules::{Field, Names, Reason, block, leaf};
+use rules::{Names, Reason, block, leaf};
 
 // A position of an update: its flag, and the position if it is set.
 fn updated_position(
@@ -41,7 +41,7 @@ fn position_at(
     ensures { Met (position_at full i shape) parser.old result parser.new }
 {
     let p = Names {
-        word: block::POSITIONS + Field::FIRST * i,
+        word: block::POSITIONS + block::FIRST * i,
     };
     if full {
         return position::position(parser, p, shape, true);

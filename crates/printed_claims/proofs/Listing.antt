@@ -15,10 +15,10 @@ use Rattle.scene.specs.Scene.{scene_reading, SceneAnswered}
 use Rattle.metadata.specs.Entry.{metadata_reading}
 use Rattle.text.proofs.Lines.{line_front}
 use Rattle.known_names.proofs.Explained as explained
-use Rattle.part.specs.Part.{PartAnswered}
+use Rattle.part_fields.specs.Part.{PartAnswered}
 use Rattle.listing.specs.Listing.{listing}
-use Rattle.listings.specs.Printed.{lines, printed}
-use Rattle.listings.proofs.Printed as listings
+use Rattle.listing_claims.specs.Printed.{lines, printed}
+use Rattle.listing_claims.proofs.Printed as listings
 use Rattle.owner.specs.Cells.{Cells}
 use Rattle.runs.specs.Sent.{input_sent}
 use Rattle.printed_runs.specs.Show.{Asked, PartRead}

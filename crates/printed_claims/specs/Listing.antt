@@ -12,9 +12,9 @@ use Rattle.metadata.specs.Entry.{metadata_reading}
 use Rattle.metadata.proofs.read_metadata.Symbol.{code as metadata_code}
 use Rattle.known_names.specs.Known.{Explained}
 use Rattle.listing.specs.Listing.{listing}
-use Rattle.part.specs.Part.{Listed, part_from, part_listed}
-use Rattle.part.proofs.read_part.Symbol.{code as part_code}
-use Rattle.listings.specs.Printed.{part_listing}
+use Rattle.part_fields.specs.Part.{Listed, part_from, part_listed}
+use Rattle.part_fields.proofs.read_part.Symbol.{code as part_code}
+use Rattle.listing_claims.specs.Printed.{part_listing}
 use Rattle.owner.specs.Cells.{Cells, refilled}
 use Rattle.owner.specs.Holds as holds
 use Rattle.runs.specs.Sent.{Variant, Sent, SentFits, input_sent, SentInCells}

@@ -28,13 +28,13 @@ use Rattle.show.specs.Show.{ShowAnswered}
 use Rattle.show.specs.contracts.show as show
 use Rattle.show.proofs.show.Symbol.{name as show_name, code as show_code}
 use Rattle.show.proofs.show.Met.{met as show-met}
-use Rattle.part.specs.declared.NotRead.{NotRead}
-use Rattle.part.specs.contracts.NotRead as not-read-row
-use Rattle.part.proofs.NotRead.TheLaws as not-read
-use Rattle.part.specs.Part.{part_from, part_listed, PartAnswered}
-use Rattle.part.specs.contracts.read_part as read-part
-use Rattle.part.proofs.read_part.Symbol.{name as part_name, code as part_code}
-use Rattle.part.proofs.read_part.Met.{met as part-met}
+use Rattle.part_fields.specs.declared.NotRead.{NotRead}
+use Rattle.part_fields.specs.contracts.NotRead as not-read-row
+use Rattle.part_fields.proofs.NotRead.TheLaws as not-read
+use Rattle.part_fields.specs.Part.{part_from, part_listed, PartAnswered}
+use Rattle.part_fields.specs.contracts.read_part as read-part
+use Rattle.part_fields.proofs.read_part.Symbol.{name as part_name, code as part_code}
+use Rattle.part_fields.proofs.read_part.Met.{met as part-met}
 use Rattle.owner.specs.Holds.{◌⊨◌}
 use Rattle.owner.proofs.Loans.{Kind, shared, mutable, reference, value}
 use Rattle.owner.proofs.Owner.{T, Says}

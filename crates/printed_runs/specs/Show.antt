@@ -17,11 +17,11 @@ use Rattle.text.specs.declared.TextAnswer.{TextAnswer}
 use Rattle.text.proofs.TextAnswer.TheLaws as text-answer
 use Rattle.show.specs.Show.{ShowAnswered}
 use Rattle.show.proofs.show.Symbol.{name as show_name}
-use Rattle.part.specs.declared.NotRead.{NotRead}
-use Rattle.part.specs.contracts.NotRead as not-read-row
-use Rattle.part.proofs.NotRead.TheLaws as not-read
-use Rattle.part.specs.Part.{part_from, part_listed, PartAnswered}
-use Rattle.part.proofs.read_part.Symbol.{name as part_name}
+use Rattle.part_fields.specs.declared.NotRead.{NotRead}
+use Rattle.part_fields.specs.contracts.NotRead as not-read-row
+use Rattle.part_fields.proofs.NotRead.TheLaws as not-read
+use Rattle.part_fields.specs.Part.{part_from, part_listed, PartAnswered}
+use Rattle.part_fields.proofs.read_part.Symbol.{name as part_name}
 use Rattle.owner.specs.Cells.{Cells, refilled, Slice, slice, pointer}
 use Rattle.owner.specs.Machine.{Ran}
 use Rattle.owner.specs.Holds.{◌⊨◌}

@@ -5,10 +5,11 @@ ghost use Rattle.std.specs.Prelude.{◌≡◌, ◌+◌, ◌*◌, ◌≤◌, ◌<
 ghost use Rattle.std.specs.Float.Ieee.Scale.{finite};
 ghost use Rattle.rules.specs.Derived.{fold};
 ghost use Rattle.parser.specs.Met.{Met};
-ghost use Rattle.probability.specs.Probability.{from_bits, is_probability, add_float, floats, add_integer, integers, probabilities};
+ghost use Rattle.probability.specs.Probability.{from_bits, is_probability, add_float, floats};
+ghost use Rattle.probability.specs.Probability.{add_integer, integers, probabilities};
 
 use parser::{Parser, tri};
-use rules::{Field, Names, Reason, leaf};
+use rules::{Names, Reason, leaf};
 
 // `f32::is_finite`, asked of the pattern.
 pub fn is_finite(raw: u32) -> bool
@@ -29,7 +30,7 @@ fn add_float(parser: &mut Parser<'_>, q: Names<38>, j: u64, sum: f32) -> Result<
     requires { j < 4096 }
     ensures { Met (add_float q.word j sum) parser.old result parser.new }
 {
-    let raw = tri!(parser.take(q.word + leaf::VALUES_ENCODED + Field::THIRD * j, 32)) as u32;
+    let raw = tri!(parser.take(q.word + leaf::VALUES_ENCODED + leaf::THIRD * j, 32)) as u32;
     if is_probability(raw) {
         return Ok(sum + f32::from_bits(raw));
     }
@@ -74,7 +75,7 @@ fn add_integer(
     ensures met { Met (add_integer q.word width j sum) parser.old result parser.new }
     ensures small { IfOk result (λ v. v < 2 ^ 32 * (j + 1) + 1) }
 {
-    let raw = tri!(parser.take(q.word + leaf::VALUES_ENCODED + Field::THIRD * j, width));
+    let raw = tri!(parser.take(q.word + leaf::VALUES_ENCODED + leaf::THIRD * j, width));
     Ok(sum + raw)
 }
 

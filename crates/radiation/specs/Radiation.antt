@@ -4,7 +4,7 @@ use Rattle.rules.specs.Name.{third}
 use Rattle.rules.specs.Leaf as leaf
 use Rattle.rules.specs.Rule.{Rule, done, ◌>>=◌, ◌>>◌, pick}
 use Rattle.rules.specs.Derived.{◌⇒◌, choose, take, flag, escaped, passive_bits, invalid, fold}
-use Rattle.common.specs.Common.{number, payload, metadata_resource}
+use Rattle.common_resources.specs.Common.{number, payload, metadata_resource}
 use Rattle.bands.specs.Bands.{renderer_precision, count_plus_one, bands}
 
 -- pattern 3

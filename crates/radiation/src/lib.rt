@@ -3,11 +3,12 @@
 
 ghost use Rattle.std.specs.Prelude.{◌+◌, ◌≤◌, ◌<◌, ◌^◌, IfOk};
 ghost use Rattle.parser.specs.Met.{Met};
-ghost use Rattle.radiation.specs.Radiation.{gain_and_angle, pattern, size, sizes, precision_width, pattern_of_precision, coefficients, resource_index, renderer_radiation};
+ghost use Rattle.radiation.specs.Radiation.{gain_and_angle, pattern, size, sizes, precision_width};
+ghost use Rattle.radiation.specs.Radiation.{pattern_of_precision, coefficients, resource_index, renderer_radiation};
 
 use bands::Kind;
 use parser::{Parser, tri};
-use rules::{Field, Names, Reason, leaf};
+use rules::{Names, Reason, leaf};
 
 // Pattern 3.
 fn gain_and_angle(parser: &mut Parser<'_>, p: Names<38>, width: usize) -> Result<(), Reason>
@@ -19,7 +20,7 @@ fn gain_and_angle(parser: &mut Parser<'_>, p: Names<38>, width: usize) -> Result
         return Ok(());
     }
     tri!(bands::renderer_precision(parser, p.word + leaf::GAIN_ENCODED, width));
-    common::number(parser, p.word + leaf::ANGLE_ENCODED, 9)
+    common_resources::number(parser, p.word + leaf::ANGLE_ENCODED, 9)
 }
 
 // The `match` on the pattern: two of its numbers are kinds of bands, and each of the others is used by its arm alone.
@@ -32,11 +33,11 @@ fn pattern(parser: &mut Parser<'_>, p: Names<38>, kind: u64, width: usize) -> Re
         1 => bands::bands(parser, p, Kind::CompactOrPrecise, width),
         2 => bands::bands(parser, p, Kind::AnglesAndGain, width),
         3 => gain_and_angle(parser, p, width),
-        _ => common::payload(parser, p),
+        _ => common_resources::payload(parser, p),
     }
 }
 
-// The width of the precision.
+// How many bits each number of the pattern has.
 fn precision_width(parser: &mut Parser<'_>, p: Names<38>) -> Result<usize, Reason>
     ensures met { Met (precision_width p.word) parser.old result parser.new }
     ensures small { IfOk result (λ v. v < 65) }
@@ -63,7 +64,7 @@ fn size(parser: &mut Parser<'_>, p: Names<38>, i: u64, entries: u64) -> Result<u
     ensures small { IfOk result (λ v. v < entries + 2 ^ 22 + 1) }
 {
     let size_minus_one = tri!(parser.escaped(
-        p.word + leaf::SIZES_MINUS_ONE + Field::THIRD * i,
+        p.word + leaf::SIZES_MINUS_ONE + leaf::THIRD * i,
         [6, 9, 12]
     ));
     Ok(entries + (size_minus_one + 1))
@@ -98,8 +99,8 @@ fn resource_index(parser: &mut Parser<'_>, p: Names<38>) -> Result<(), Reason>
     let resource = Names {
         word: p.word + leaf::RESOURCE,
     };
-    tri!(common::metadata_resource(parser, resource));
-    common::number(parser, p.word + leaf::INDEX, 10)
+    tri!(common_resources::metadata_resource(parser, resource));
+    common_resources::number(parser, p.word + leaf::INDEX, 10)
 }
 
 // `renderer_radiation`. A type is used by its arm alone, and an enum would only name each number twice.
@@ -109,7 +110,7 @@ pub fn renderer_radiation(parser: &mut Parser<'_>, p: Names<38>) -> Result<(), R
     let kind = tri!(parser.take(p.word + leaf::TYPE, 3));
     match kind {
         0 => Ok(()),
-        1 => common::number(parser, p.word + leaf::INDEX, 10),
+        1 => common_resources::number(parser, p.word + leaf::INDEX, 10),
         2 => resource_index(parser, p),
         3 => pattern_of_precision(parser, p),
         4 => coefficients(parser, p),

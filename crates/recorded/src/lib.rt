@@ -2,9 +2,10 @@
 // a text, and whether what a call answered and left is that. `oracle/README.md` says how a record is laid out.
 #![tactic(auto)]
 
-ghost use Rattle.std.specs.Prelude.{◌≡◌, ◌≤◌, ◌↔◌, ℕ, List, Some, IfOk, IsTrue, ◌==◌, slice_index, length, take, nat_eq};
+ghost use Rattle.std.specs.Prelude.{◌≡◌, ◌≤◌, ◌↔◌, ◌==◌, ℕ, nat_eq, List, length, take, slice_index, Some, IfOk, IsTrue};
 ghost use Rattle.std.specs.Io.KnownBytes.{Consumes};
-ghost use Rattle.recorded.specs.Record.{number_of, Decodes, field_of, outcome_from, answer_in, blanks, blank_word, are_blank, bytes_of, BeginsWithNext, NextIs, shape_of, text_answer};
+ghost use Rattle.recorded.specs.Record.{number_of, Decodes, field_of, outcome_from, answer_in, blanks, blank_word};
+ghost use Rattle.recorded.specs.Record.{are_blank, bytes_of, BeginsWithNext, NextIs, shape_of, text_answer};
 
 use position::PositionSyntax;
 use rules::{Answer, Outcome};

@@ -4,7 +4,7 @@ use Rattle.rules.specs.Block as block
 use Rattle.rules.specs.Leaf as leaf
 use Rattle.rules.specs.Rule.{Rule, refused, ◌>>=◌, ◌>>◌}
 use Rattle.rules.specs.Derived.{◌⇒◌, choose, escaped, demand, repeat}
-use Rattle.common.specs.Common.{number, number_if, values, payload}
+use Rattle.common_resources.specs.Common.{number, number_if, values, payload}
 use Rattle.default_position.specs.DefaultPosition.{default_position}
 use Rattle.radiation.specs.Radiation.{renderer_radiation}
 use Rattle.matrix.specs.Matrix.{matrix}

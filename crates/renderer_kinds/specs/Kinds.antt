@@ -4,7 +4,7 @@ use Rattle.rules.specs.Name.{third, fourth}
 use Rattle.rules.specs.Leaf as leaf
 use Rattle.rules.specs.Rule.{Rule, done, ◌>>=◌, ◌>>◌, pick}
 use Rattle.rules.specs.Derived.{take, flag, passive_values, drc_count, repeat}
-use Rattle.common.specs.Common.{number, number_if, number_unless, values}
+use Rattle.common_resources.specs.Common.{number, number_if, number_unless, values}
 
 -- kind 1, with `legacy_spread`
 unfoldable pub legacy_spread : ℕ → Rule (Unit {0})

@@ -8,18 +8,20 @@ ghost use Rattle.parser.specs.Each.{unless};
 ghost use Rattle.rules.specs.Leaf.{all, renderer_values};
 ghost use Rattle.parser.specs.Met.{Met};
 ghost use Rattle.parser.specs.Widths.{Narrow};
-ghost use Rattle.common.specs.Common.{values};
-ghost use Rattle.renderer_kinds.specs.Kinds.{legacy_spread, spread_width, spread_values, spread, encoded_flag, region, regions, regions_unless_all, encoded_if_one, flag_and_encoded, single_region, single_region_if_present, order_and_encoded, encoded_unless_zero};
+ghost use Rattle.common_resources.specs.Common.{values};
+ghost use Rattle.renderer_kinds.specs.Kinds.{legacy_spread, spread_width, spread_values, spread, encoded_flag};
+ghost use Rattle.renderer_kinds.specs.Kinds.{region, regions, regions_unless_all, encoded_if_one, flag_and_encoded};
+ghost use Rattle.renderer_kinds.specs.Kinds.{single_region, single_region_if_present, order_and_encoded, encoded_unless_zero};
 
 use parser::{Parser, tri};
-use rules::{Field, Names, Reason, leaf};
+use rules::{Names, Reason, leaf};
 
 // Three numbers: kinds 5 and 13.
 pub fn three_values(parser: &mut Parser<'_>, q: Names<38>, widths: [usize; 3]) -> Result<(), Reason>
     requires { Narrow widths }
     ensures { Met (values (q.word + renderer_values) widths) parser.old result parser.new }
 {
-    common::values(parser, q.word + leaf::RENDERER_VALUES, &widths)
+    common_resources::values(parser, q.word + leaf::RENDERER_VALUES, &widths)
 }
 
 // Kind 1, with `legacy_spread`.
@@ -28,9 +30,9 @@ fn legacy_spread(parser: &mut Parser<'_>, q: Names<38>) -> Result<(), Reason>
 {
     let height_present = tri!(parser.flag(q.word + leaf::HEIGHT_PRESENT));
     let widths: [usize; 2] = [9, 8];
-    tri!(common::values(parser, q.word + leaf::RENDERER_VALUES, &widths));
+    tri!(common_resources::values(parser, q.word + leaf::RENDERER_VALUES, &widths));
     if height_present {
-        return common::number(parser, q.word + leaf::HEIGHT_ENCODED, 6);
+        return common_resources::number(parser, q.word + leaf::HEIGHT_ENCODED, 6);
     }
     Ok(())
 }
@@ -54,10 +56,10 @@ fn spread_values(parser: &mut Parser<'_>, q: Names<38>, width: usize) -> Result<
     tri!(parser.take(q.word + leaf::RANGE_ENCODED, 4));
     if third_dimension {
         let widths = [width; 3];
-        return common::values(parser, q.word + leaf::RENDERER_VALUES, &widths);
+        return common_resources::values(parser, q.word + leaf::RENDERER_VALUES, &widths);
     }
     let widths = [width; 2];
-    common::values(parser, q.word + leaf::RENDERER_VALUES, &widths)
+    common_resources::values(parser, q.word + leaf::RENDERER_VALUES, &widths)
 }
 
 // Kind 1: a spread, legacy or not.
@@ -86,18 +88,18 @@ fn region(parser: &mut Parser<'_>, q: Names<38>, j: u64, cartesian: bool) -> Res
     ensures { Met (region (q.word + third * j) cartesian) parser.old result parser.new }
 {
     let r: Names<51> = Names {
-        word: q.word + Field::THIRD * j,
+        word: q.word + leaf::THIRD * j,
     };
     let predefined = tri!(parser.flag(r.word + leaf::REGION_PREDEFINED));
     if predefined {
-        return common::number(parser, r.word + leaf::REGION_INDEX, 4);
+        return common_resources::number(parser, r.word + leaf::REGION_INDEX, 4);
     }
     if cartesian {
         let widths: [usize; 6] = [8; 6];
-        return parser.passive_values(r.word + leaf::REGION_ENCODED, Field::FOURTH, &widths);
+        return parser.passive_values(r.word + leaf::REGION_ENCODED, leaf::FOURTH, &widths);
     }
     let widths: [usize; 4] = [9, 9, 8, 8];
-    parser.passive_values(r.word + leaf::REGION_ENCODED, Field::FOURTH, &widths)
+    parser.passive_values(r.word + leaf::REGION_ENCODED, leaf::FOURTH, &widths)
 }
 
 // Kind 7, present and not `all`: the regions.
@@ -129,7 +131,12 @@ pub fn encoded_if_one(parser: &mut Parser<'_>, q: Names<38>) -> Result<(), Reaso
 {
     let kind = tri!(parser.take(q.word + leaf::TYPE, 3));
     if kind == 1 {
-        return common::number_if(parser, q.word + leaf::PRESENT, q.word + leaf::ENCODED, 7);
+        return common_resources::number_if(
+            parser,
+            q.word + leaf::PRESENT,
+            q.word + leaf::ENCODED,
+            7,
+        );
     }
     Ok(())
 }
@@ -139,7 +146,7 @@ pub fn flag_and_encoded(parser: &mut Parser<'_>, q: Names<38>) -> Result<(), Rea
     ensures { Met (flag_and_encoded q.word) parser.old result parser.new }
 {
     tri!(parser.flag(q.word + leaf::FLAG));
-    common::number_if(parser, q.word + leaf::PRESENT, q.word + leaf::ENCODED, 9)
+    common_resources::number_if(parser, q.word + leaf::PRESENT, q.word + leaf::ENCODED, 9)
 }
 
 // Kind 17, where it is present: an index or six numbers.
@@ -148,7 +155,7 @@ fn single_region(parser: &mut Parser<'_>, q: Names<38>) -> Result<(), Reason>
 {
     let predefined = tri!(parser.flag(q.word + leaf::PREDEFINED));
     if predefined {
-        return common::number(parser, q.word + leaf::INDEX, 4);
+        return common_resources::number(parser, q.word + leaf::INDEX, 4);
     }
     let cartesian = tri!(parser.flag(q.word + leaf::CARTESIAN));
     let widths: [usize; 6] = if cartesian {
@@ -156,7 +163,7 @@ fn single_region(parser: &mut Parser<'_>, q: Names<38>) -> Result<(), Reason>
     } else {
         [9, 9, 8, 8, 8, 8]
     };
-    common::values(parser, q.word + leaf::RENDERER_VALUES, &widths)
+    common_resources::values(parser, q.word + leaf::RENDERER_VALUES, &widths)
 }
 
 // Kind 17: a region, if it is present.
@@ -170,8 +177,8 @@ pub fn single_region_if_present(parser: &mut Parser<'_>, q: Names<38>) -> Result
 pub fn order_and_encoded(parser: &mut Parser<'_>, q: Names<38>) -> Result<(), Reason>
     ensures { Met (order_and_encoded q.word) parser.old result parser.new }
 {
-    tri!(common::number_unless(parser, q.word + leaf::DEFAULT, q.word + leaf::ORDER, 4));
-    common::number(parser, q.word + leaf::ENCODED, 8)
+    tri!(common_resources::number_unless(parser, q.word + leaf::DEFAULT, q.word + leaf::ORDER, 4));
+    common_resources::number(parser, q.word + leaf::ENCODED, 8)
 }
 
 // Kind 24: a number, which may be present unless its type is 0. The type is asked nothing else, and is no enum.
@@ -182,5 +189,5 @@ pub fn encoded_unless_zero(parser: &mut Parser<'_>, q: Names<38>) -> Result<(), 
     if kind == 0 {
         return Ok(());
     }
-    common::number_if(parser, q.word + leaf::PRESENT, q.word + leaf::ENCODED, 16)
+    common_resources::number_if(parser, q.word + leaf::PRESENT, q.word + leaf::ENCODED, 16)
 }

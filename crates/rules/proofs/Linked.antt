@@ -1,9 +1,9 @@
 -- A program that has this crate's table, and the code of what the crate calls, has the code of these functions: for the crate `linked`.
 use Rattle.rules.proofs.Table.{HasAt}
-use Rattle.rules.proofs.TheLink.{table, Below, linked-rules::Field::at, linked-rules::FieldValue::kind, linked-rules::FieldValue::number, linked-rules::Outcome::is_read, linked-rules::reason::OutcomeFromReason::from, linked-rules::reason::OutcomeFromResultUnitReason::from, linked-rules::reason::Reason::number}
+use Rattle.rules.proofs.TheLink.{table, Below, linked-rules::Field::at, linked-rules::FieldValue::kind, linked-rules::FieldValue::word, linked-rules::Outcome::is_read, linked-rules::reason::OutcomeFromReason::from, linked-rules::reason::OutcomeFromResultUnitReason::from, linked-rules::reason::Reason::number}
 use Rattle.rules.proofs.Field.at.Symbol.{code as field_at_code}
 use Rattle.rules.proofs.FieldValue.kind.Symbol.{code as field_value_kind_code}
-use Rattle.rules.proofs.FieldValue.number.Symbol.{code as field_value_number_code}
+use Rattle.rules.proofs.FieldValue.word.Symbol.{code as field_value_word_code}
 use Rattle.rules.proofs.Outcome.is_read.Symbol.{code as outcome_is_read_code}
 use Rattle.rules.proofs.reason.OutcomeFromReason.from.Symbol.{code as outcome_from_reason_code}
 use Rattle.rules.proofs.reason.OutcomeFromResultUnitReason.from.Symbol.{code as outcome_from_result_code}
@@ -15,8 +15,8 @@ field_at = linked-rules::Field::at
 pub field_value_kind : HasAt "rules" table Below field_value_kind_code
 field_value_kind = linked-rules::FieldValue::kind
 
-pub field_value_number : HasAt "rules" table Below field_value_number_code
-field_value_number = linked-rules::FieldValue::number
+pub field_value_word : HasAt "rules" table Below field_value_word_code
+field_value_word = linked-rules::FieldValue::word
 
 pub outcome_is_read : HasAt "rules" table Below outcome_is_read_code
 outcome_is_read = linked-rules::Outcome::is_read

@@ -14,14 +14,14 @@ kind_of (Bits n) = 2
 kind_of (Bytes n) = 3
 
 -- and its value
-abbrev pub number_of : FieldValue → ℕ
-number_of (Flag b) = pick b 1 0
-number_of (Number n) = n
-number_of (Bits n) = n
-number_of (Bytes n) = n
+abbrev pub word_of : FieldValue → ℕ
+word_of (Flag b) = pick b 1 0
+word_of (Number n) = n
+word_of (Bits n) = n
+word_of (Bytes n) = n
 
 abbrev pub words_of : Field → List ℕ
-words_of f = f.bit_offset ∷ f.bit_length ∷ kind_of f.value ∷ number_of f.value ∷ f.name ∷ []
+words_of f = f.bit_offset ∷ f.bit_length ∷ kind_of f.value ∷ word_of f.value ∷ f.name ∷ []
 
 unfoldable pub encoded : List Field → List ℕ
 encoded [] = []

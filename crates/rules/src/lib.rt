@@ -1,9 +1,17 @@
-// The fields that a reading makes, the answer that it comes to, and why it ended before it was done.
+// What a reading comes to: its fields, its answer, and why it ended before it was done.
+//
+// A rule (specs/Rule.antt) says what is asked of the bits next, and what comes after. One function, `reading`
+// (specs/Reading.antt), says what a rule means for given bytes: read, refused or stopped, where, and with which fields. So what
+// holds of every reading is shown once, by induction over rules (crate `laws`), and whatever reads promises one thing, that it
+// goes as its rule says (`Met`, crate `parser`).
+//
+// A field is five words: where it begins, how long it is, the kind of its value, the value, and its name. A name is a word too
+// (docs/FIELDS.md): what reads a structure is handed the `Names` that its fields begin with, and adds a leaf to them.
 #![tactic(auto)]
 
 ghost use Rattle.std.specs.Prelude.{◌≡◌};
 ghost use Rattle.rules.specs.Reading.{is_read};
-ghost use Rattle.rules.specs.Words.{kind_of, number_of, value_at, field_at};
+ghost use Rattle.rules.specs.Words.{kind_of, word_of, value_at, field_at};
 
 pub mod block;
 pub mod leaf;
@@ -72,9 +80,9 @@ impl FieldValue {
         }
     }
 
-    // The word of the value itself.
-    pub fn number(self) -> u64
-        ensures { result ≡ number_of self }
+    // The value itself as a word: 1 for a flag that is set, and of a payload its length.
+    pub fn word(self) -> u64
+        ensures { result ≡ word_of self }
     {
         match self {
             FieldValue::Flag(b) => { if b { 1 } else { 0 } }
@@ -99,16 +107,6 @@ impl FieldValue {
 }
 
 impl Field {
-    // One more in each index of a name word, of which a block has the first two and a leaf the others: the names of a list
-    // of fields are so far apart.
-    pub const FIRST: u64 = 4096;
-
-    pub const SECOND: u64 = 33554432;
-
-    pub const THIRD: u64 = 274877906944;
-
-    pub const FOURTH: u64 = 2251799813685248;
-
     // The field of that index in recorded words, if they hold one.
     pub fn at(words: &[u64], index: usize) -> Option<Field>
         ensures { result ≡ field_at words.now index }

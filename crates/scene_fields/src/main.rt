@@ -3,8 +3,8 @@
 // program was called in another way, and else 1.
 #![tactic(auto)]
 
-use part::NotRead;
-use request::Request;
+use arguments::Request;
+use part_fields::NotRead;
 use rules::Answer;
 use std::alloc::AllocError;
 use std::env::{Env, FillError};
@@ -102,7 +102,7 @@ fn read(request: Request, file: &[u8], words: &mut [u64]) -> Result<Answer, Fail
     match request {
         Request::Scene(bit) => Ok(scene::read_scene(file, bit, true, words).answer),
         Request::Metadata(bit) => Ok(metadata::read_metadata(file, bit, true, words)),
-        Request::Part(k, bit) => Ok(part::read_part(file, k, bit, words)?),
+        Request::Part(k, bit) => Ok(part_fields::read_part(file, k, bit, words)?),
     }
 }
 
@@ -127,7 +127,7 @@ fn asked<R: Env + AllocGlobal>(rt: &R) -> Result<Option<Request>, AllocError> {
         .iter()
         .map(|text| text.as_slice())
         .collect(rt.alloc())?;
-    Ok(request::request_of(&texts))
+    Ok(arguments::request_of(&texts))
 }
 
 // Lists what is asked for.

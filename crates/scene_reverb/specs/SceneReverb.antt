@@ -3,7 +3,7 @@ use Rattle.std.specs.Prelude.{ℕ, ◌+◌, [], ◌∷◌, eqb, replicate}
 use Rattle.rules.specs.Leaf as leaf
 use Rattle.rules.specs.Rule.{Rule, done, ◌>>=◌, ◌>>◌, pick}
 use Rattle.rules.specs.Derived.{◌⇒◌, choose, take, invalid, stop}
-use Rattle.common.specs.Common.{values, metadata_resource, metadata_reverb}
+use Rattle.common_resources.specs.Common.{values, metadata_resource, metadata_reverb}
 
 -- kind 9, types 1 to 3; a room geometry stops at a fallback other than 0
 unfoldable pub index_and_reverb : ℕ → Rule (Unit {0})

@@ -12,7 +12,7 @@ fn index_and_reverb(parser: &mut Parser<'_>, q: Names<38>) -> Result<(), Reason>
     ensures { Met (index_and_reverb q.word) parser.old result parser.new }
 {
     tri!(parser.take(q.word + leaf::INDEX, 10));
-    common::metadata_reverb(parser, q)
+    common_resources::metadata_reverb(parser, q)
 }
 
 // Kind 9, type 2: a resource, an index and a reverb.
@@ -22,7 +22,7 @@ fn resource_and_reverb(parser: &mut Parser<'_>, q: Names<38>) -> Result<(), Reas
     let resource = Names {
         word: q.word + leaf::RESOURCE,
     };
-    tri!(common::metadata_resource(parser, resource));
+    tri!(common_resources::metadata_resource(parser, resource));
     index_and_reverb(parser, q)
 }
 
@@ -33,11 +33,11 @@ fn room_geometry(parser: &mut Parser<'_>, q: Names<38>) -> Result<(), Reason>
     let resource = Names {
         word: q.word + leaf::RESOURCE,
     };
-    tri!(common::metadata_resource(parser, resource));
+    tri!(common_resources::metadata_resource(parser, resource));
     let fallback = tri!(parser.take(q.word + leaf::FALLBACK_TYPE, 3));
     if fallback == 0 {
         let widths: [usize; 32] = [32; 32];
-        return common::values(parser, q.word + leaf::RENDERER_VALUES, &widths);
+        return common_resources::values(parser, q.word + leaf::RENDERER_VALUES, &widths);
     }
     Err(Reason::RoomGeometryFallback)
 }

@@ -18,8 +18,12 @@ pub const TEXT: usize = 32768;
 // Puts a line for each update, every one of which finds the shapes that the one before left, and then the positions.
 fn put_updates(writer: &mut Writer<'_>, file: &ShowFile<'_>, shapes: &mut [PositionSyntax])
     requires few { length shapes.old ≤ 63 }
-    requires room { Fits (updates_text 1 (packets file.now.bytes.now (part_count file.now.bytes.now - 1) 1) shapes.old) writer.old }
-    ensures { Wrote (updates_text 1 (packets file.now.bytes.now (part_count file.now.bytes.now - 1) 1) shapes.old) writer.old writer.new }
+    requires room { Fits
+        (updates_text 1 (packets file.now.bytes.now (part_count file.now.bytes.now - 1) 1) shapes.old)
+        writer.old }
+    ensures { Wrote
+        (updates_text 1 (packets file.now.bytes.now (part_count file.now.bytes.now - 1) 1) shapes.old)
+        writer.old writer.new }
 {
     for k in 1..file.part_count() {
         let answer = show_parts::show_update(file, k, shapes);

@@ -3,7 +3,8 @@
 #![tactic(auto)]
 
 ghost use Rattle.std.specs.Prelude.{◌≡◌, ◌≤◌, ◌<◌, IfOk, IfErr};
-ghost use Rattle.show_header.specs.Header.{HeaderSound, part_count, offset_of, end_of, part_of, in_order, is_sound, file_question};
+ghost use Rattle.show_header.specs.Header.{HeaderSound, part_count, offset_of, end_of};
+ghost use Rattle.show_header.specs.Header.{part_of, in_order, is_sound, file_question};
 ghost use Rattle.rules.specs.Reason.{asked, Refuses};
 
 use rules::Reason;

@@ -11,18 +11,18 @@ use Rattle.ranks.specs.Rank.{parent_of, rank_of}
 use Rattle.validation.specs.Validation.{parents}
 use Rattle.text.specs.Text.{ascii, line}
 use Rattle.text.proofs.Lines.{widest, line_most}
-use Rattle.show_lines.specs.Lines.{told, part_line, position_line, position_lines, all_positions}
+use Rattle.show_lines.specs.Lines.{ending, part_line, position_line, position_lines, all_positions}
 
 -- No line is longer than 84 bytes: of a part, ..
-told_most : (k : ℕ) (o : Outcome) (position fields : ℕ) → length (line (("part ", k) ∷ told o position fields)) ≤ 84
+ending_most : (k : ℕ) (o : Outcome) (position fields : ℕ) → length (line (("part ", k) ∷ ending o position fields)) ≤ 84
 unfolding widest ascii
-told_most k Read position fields = let most = line_most (("part ", k) ∷ told Read position fields) in omega arith
-told_most k (Refused n) position fields = let most = line_most (("part ", k) ∷ told (Refused n) position fields) in omega arith
-told_most k (Stopped n) position fields = let most = line_most (("part ", k) ∷ told (Stopped n) position fields) in omega arith
+ending_most k Read position fields = let most = line_most (("part ", k) ∷ ending Read position fields) in omega arith
+ending_most k (Refused n) position fields = let most = line_most (("part ", k) ∷ ending (Refused n) position fields) in omega arith
+ending_most k (Stopped n) position fields = let most = line_most (("part ", k) ∷ ending (Stopped n) position fields) in omega arith
 
 pub part_most : (k : ℕ) (a : Answer) → length (part_line k a) ≤ 84
 unfolding part_line
-part_most k a = told_most k a.outcome a.position a.fields
+part_most k a = ending_most k a.outcome a.position a.fields
 
 -- .. of a position, ..
 position_most : (i parent rank : ℕ) → length (position_line i parent rank) ≤ 84

@@ -9,14 +9,14 @@ use Rattle.ranks.specs.Rank.{parent_of, rank_of}
 use Rattle.validation.specs.Validation.{parents}
 use Rattle.text.specs.Text.{line}
 
--- what is told of a part: how it ended
-abbrev pub told : Outcome → ℕ → ℕ → List (String × ℕ)
-told Read position fields = (" read ", position) ∷ (" fields ", fields) ∷ []
-told (Refused n) position fields = (" refused ", n) ∷ (" at ", position) ∷ []
-told (Stopped n) position fields = (" stopped ", n) ∷ (" at ", position) ∷ []
+-- how a part ended
+abbrev pub ending : Outcome → ℕ → ℕ → List (String × ℕ)
+ending Read position fields = (" read ", position) ∷ (" fields ", fields) ∷ []
+ending (Refused n) position fields = (" refused ", n) ∷ (" at ", position) ∷ []
+ending (Stopped n) position fields = (" stopped ", n) ∷ (" at ", position) ∷ []
 
 unfoldable pub part_line : ℕ → Answer → List ℕ
-part_line k a = line (("part ", k) ∷ told a.outcome a.position a.fields)
+part_line k a = line (("part ", k) ∷ ending a.outcome a.position a.fields)
 
 unfoldable pub position_line : ℕ → ℕ → ℕ → List ℕ
 position_line i parent rank = line (("position ", i) ∷ (" parent ", parent) ∷ (" rank ", rank) ∷ [])

@@ -5,16 +5,16 @@
 ghost use Rattle.std.specs.Prelude.{[], ◌∷◌, ◌≤◌, length};
 ghost use Rattle.text.specs.Text.{line};
 ghost use Rattle.text.specs.Writer.{Fits, Wrote};
-ghost use Rattle.show_lines.specs.Lines.{told, part_line, position_line, position_lines, all_positions};
+ghost use Rattle.show_lines.specs.Lines.{ending, part_line, position_line, position_lines, all_positions};
 
 use position::PositionSyntax;
 use rules::{Answer, Outcome};
 use text::Writer;
 
 // Puts how a part ended.
-fn put_told(writer: &mut Writer<'_>, answer: Answer)
-    requires { Fits (line (told answer.outcome answer.position answer.fields)) writer.old }
-    ensures { Wrote (line (told answer.outcome answer.position answer.fields)) writer.old writer.new }
+fn put_ending(writer: &mut Writer<'_>, answer: Answer)
+    requires { Fits (line (ending answer.outcome answer.position answer.fields)) writer.old }
+    ensures { Wrote (line (ending answer.outcome answer.position answer.fields)) writer.old writer.new }
 {
     let position = answer.position as u64;
     match answer.outcome {
@@ -30,7 +30,7 @@ pub fn put_part(writer: &mut Writer<'_>, k: usize, answer: Answer)
     ensures { Wrote (part_line k answer) writer.old writer.new }
 {
     writer.put_number(b"part ", k as u64);
-    put_told(writer, answer);
+    put_ending(writer, answer);
 }
 
 // Puts the line of position `i`.

@@ -21,7 +21,9 @@ pub fn scene_part(
     recording: bool,
     words: &mut [u64],
 ) -> SceneAnswer
-    ensures { SceneAnswered (book_scene (packet_of (part_of file.now.bytes.now 0) offset recording words.old)) recording words.old result words.new }
+    ensures { SceneAnswered
+        (book_scene (packet_of (part_of file.now.bytes.now 0) offset recording words.old))
+        recording words.old result words.new }
 {
     scene::read_scene(file.part(0), offset, recording, words)
 }
@@ -36,7 +38,9 @@ pub fn update_part(
     shapes: &mut [PositionSyntax],
 ) -> Answer
     requires { k < part_count file.now.bytes.now }
-    ensures { Answered (book_reading (packet_of (part_of file.now.bytes.now k) offset recording words.old) shapes.old) shapes.old recording words.old result shapes.new words.new }
+    ensures { Answered
+        (book_reading (packet_of (part_of file.now.bytes.now k) offset recording words.old) shapes.old)
+        shapes.old recording words.old result shapes.new words.new }
 {
     lent::graph_update(file.part(k), offset, recording, words, shapes)
 }

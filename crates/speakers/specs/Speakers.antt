@@ -4,7 +4,7 @@ use Rattle.rules.specs.Name.{third, fourth}
 use Rattle.rules.specs.Leaf as leaf
 use Rattle.rules.specs.Rule.{Rule, ◌>>=◌, ◌>>◌}
 use Rattle.rules.specs.Derived.{take, passive_values, label, drc_count, repeat}
-use Rattle.common.specs.Common.{number, number_unless, metadata_resource}
+use Rattle.common_resources.specs.Common.{number, number_unless, metadata_resource}
 
 -- kind 9: a resource, a label, and speakers, of which each is asked for 33 bits; `q` is the word of one
 unfoldable pub speaker_type : ℕ → Rule (Unit {0})

@@ -8,14 +8,14 @@ ghost use Rattle.parser.specs.Met.{Met};
 ghost use Rattle.speakers.specs.Speakers.{speaker_type, speaker, layout, labelled_layout};
 
 use parser::{Parser, tri};
-use rules::{Field, Names, Reason, leaf};
+use rules::{Names, Reason, leaf};
 
 // Kind 9: the value and type of a speaker.
 fn speaker_type(parser: &mut Parser<'_>, q: Names<51>) -> Result<(), Reason>
     ensures { Met (speaker_type q.word) parser.old result parser.new }
 {
-    tri!(common::number(parser, q.word + leaf::SPEAKER_VALUE_ENCODED, 7));
-    common::number(parser, q.word + leaf::SPEAKER_TYPE, 3)
+    tri!(common_resources::number(parser, q.word + leaf::SPEAKER_VALUE_ENCODED, 7));
+    common_resources::number(parser, q.word + leaf::SPEAKER_TYPE, 3)
 }
 
 // Speaker `i`.
@@ -24,11 +24,11 @@ fn speaker(parser: &mut Parser<'_>, p: Names<38>, i: u64) -> Result<(), Reason>
     ensures { Met (speaker (p.word + third * i)) parser.old result parser.new }
 {
     let q = Names {
-        word: p.word + Field::THIRD * i,
+        word: p.word + leaf::THIRD * i,
     };
     let widths: [usize; 3] = [4, 9, 8];
-    tri!(parser.passive_values(q.word + leaf::SPEAKER_ENCODED, Field::FOURTH, &widths));
-    tri!(common::number_unless(
+    tri!(parser.passive_values(q.word + leaf::SPEAKER_ENCODED, leaf::FOURTH, &widths));
+    tri!(common_resources::number_unless(
         parser,
         q.word + leaf::SPEAKER_DEFAULT_DISTANCE,
         q.word + leaf::SPEAKER_DISTANCE_ENCODED,
@@ -53,7 +53,7 @@ pub fn labelled_layout(parser: &mut Parser<'_>, p: Names<38>) -> Result<(), Reas
     let resource = Names {
         word: p.word + leaf::RESOURCE,
     };
-    tri!(common::metadata_resource(parser, resource));
+    tri!(common_resources::metadata_resource(parser, resource));
     tri!(parser.label(p.word + leaf::LABEL));
     layout(parser, p)
 }

@@ -45,7 +45,6 @@ impl<'a> Writer<'a> {
         self.written
     }
 
-    // Puts a byte.
     pub fn put_byte(&mut self, byte: u8)
         requires { Fits (byte ∷ []) self.old }
         ensures { Wrote (byte ∷ []) self.old self.new }

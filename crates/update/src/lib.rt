@@ -26,7 +26,9 @@ pub fn graph_update(
     shapes: [PositionSyntax; 63],
     count: usize,
 ) -> UpdateAnswer
-    ensures { UpdateAnswered (update_reading (input_of bytes.now recording words.old) offset count (take count shapes)) count shapes recording words.old result words.new }
+    ensures { UpdateAnswered
+        (update_reading (input_of bytes.now recording words.old) offset count (take count shapes))
+        count shapes recording words.old result words.new }
 {
     let mut next = shapes;
     let answer = undecided::read_update(bytes, offset, recording, words, &mut next, count);

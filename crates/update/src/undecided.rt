@@ -56,7 +56,10 @@ fn entered(
     shapes: &mut [PositionSyntax; 63],
     count: usize,
 ) -> Result<(), Reason>
-    ensures { Entered (entry_then (length parser.old.bytes.now) (shapes_question count (take count shapes.old)) offset (graph_update (take count shapes.old))) count shapes.old parser.old result shapes.new parser.new }
+    ensures { Entered
+        (entry_then (length parser.old.bytes.now) (shapes_question count (take count shapes.old)) offset
+        (graph_update (take count shapes.old)))
+        count shapes.old parser.old result shapes.new parser.new }
 {
     let own = question(shapes, count);
     tri!(parser.entry(own, offset));
@@ -72,7 +75,9 @@ pub fn read_update(
     shapes: &mut [PositionSyntax; 63],
     count: usize,
 ) -> Answer
-    ensures { UpdateGiven (update_reading (input_of bytes.now recording words.old) offset count (take count shapes.old)) count shapes.old recording words.old result shapes.new words.new }
+    ensures { UpdateGiven
+        (update_reading (input_of bytes.now recording words.old) offset count (take count shapes.old))
+        count shapes.old recording words.old result shapes.new words.new }
 {
     let mut parser = Parser::new(bytes, words, recording, 0);
     let ended = entered(&mut parser, offset, shapes, count);

@@ -5,12 +5,12 @@ use borrow.Author.Rules.{rules}
 use lib.Dec.{eqb}
 use Rattle.code_tables.specs.declared.TableKind.{TableKind}
 use Rattle.code_tables.specs.declared.TableKind.TheVariants.{FirstProbabilities, SecondProbabilities}
-use Rattle.code_tables.specs.Kind.{number_of}
+use Rattle.code_tables.specs.Kind.{code_of}
 use Rattle.code_tables.specs.Tables.{codeword, entries}
 use Rattle.code_tables.proofs.entries.Goals as goal
 
 -- a type whose tables are of probabilities
-of_probabilities : {kind : TableKind} → (kind ≡ FirstProbabilities) ⊎ (kind ≡ SecondProbabilities) → eqb (number_of kind) 3 ≡ false
+of_probabilities : {kind : TableKind} → (kind ≡ FirstProbabilities) ⊎ (kind ≡ SecondProbabilities) → eqb (code_of kind) 3 ≡ false
 of_probabilities (inl e) = rw e refl
 of_probabilities (inr e) = rw e refl
 

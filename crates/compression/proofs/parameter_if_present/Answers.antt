@@ -5,11 +5,11 @@ use borrow.Author.Rules.{rules}
 use Rattle.parser.proofs.Laws.{readings}
 use Rattle.code_tables.specs.declared.TableKind.{TableKind}
 use Rattle.code_tables.specs.declared.TableKind.TheVariants.{FirstProbabilities, SecondProbabilities, Codewords}
-use Rattle.code_tables.specs.Kind.{number_of}
+use Rattle.code_tables.specs.Kind.{code_of}
 use Rattle.compression.specs.Compression.{parameter, parameter_if_present}
 use Rattle.compression.proofs.parameter_if_present.Goals as goal
 
-not_codewords : {kind : TableKind} → (kind ≡ Codewords → ⊥) → eqb (number_of kind) 3 ≡ false
+not_codewords : {kind : TableKind} → (kind ≡ Codewords → ⊥) → eqb (code_of kind) 3 ≡ false
 not_codewords {kind = FirstProbabilities} h = refl
 not_codewords {kind = SecondProbabilities} h = refl
 not_codewords {kind = Codewords} h = absurd (h refl)

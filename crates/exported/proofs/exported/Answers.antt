@@ -1,4 +1,4 @@
 use Rattle.exported.proofs.exported.Goals as goal
 
 pub returns : goal.returns
-returns c = c.told.ensures
+returns c = c.gateway_answer.ensures

@@ -2,7 +2,7 @@ use Prim.Native.Nat.{◌+◌, ◌*◌}
 use borrow.Author.Rules.{rules}
 use Rattle.rules.specs.Name.{third}
 use Rattle.rules.specs.Leaf as leaf
-use Rattle.common.specs.Common.{number}
+use Rattle.common_resources.specs.Common.{number}
 use Rattle.headphones.specs.Headphones.{channels}
 use Rattle.headphones.proofs.channels.Goals as goal
 

@@ -7,9 +7,9 @@ pub put_number-requires : goal.put_number-requires
 unfolding line ascii part_line
 put_number-requires c = search writes
 
-pub put_told-requires : goal.put_told-requires
+pub put_ending-requires : goal.put_ending-requires
 unfolding line ascii part_line
-put_told-requires c = search writes
+put_ending-requires c = search writes
 
 pub returns : goal.returns
 unfolding line ascii part_line

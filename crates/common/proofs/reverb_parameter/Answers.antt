@@ -1,7 +1,0 @@
-use Rattle.parser.proofs.Laws.{readings}
-use Rattle.common.specs.Common.{reverb_parameter}
-use Rattle.common.proofs.reverb_parameter.Goals as goal
-
-pub returns : goal.returns
-unfolding reverb_parameter
-returns c = search readings depth 14

@@ -1,7 +1,0 @@
-use Rattle.parser.proofs.Laws.{readings}
-use Rattle.common.specs.Common.{values}
-use Rattle.common.proofs.values.Goals as goal
-
-pub returns : goal.returns
-unfolding values
-returns c = search readings depth 14

@@ -1,4 +1,0 @@
-use Rattle.exported.proofs.told.Goals as goal
-
-pub returns : goal.returns
-returns c = rw (c.outcome_code-code.ensures, c.outcome_number-number.ensures)
