@@ -112,6 +112,8 @@ for name in scene-show scene-fields; do
   : >"$ASKED"
   status=0
   PATH=$work/kit:$PATH "$work/fresh/bin/$name" <docs/worked.show >&- 2>"$work/report" || status=$?
-  [ "$status" = 1 ] && echo "$name: standard output: closed" | diff - "$work/report" && cmp "$work/nothing" "$ASKED"
+  [ "$status" = 1 ]
+  echo "$name: standard output: closed" | diff - "$work/report"
+  cmp "$work/nothing" "$ASKED"
 done
 echo "both launchers build what they run"

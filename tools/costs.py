@@ -1,6 +1,6 @@
 #!/usr/bin/env python3
-"""Prints what each check of a run of `rt ci` took, in seconds of processor time, since checks run beside one another: run it
-beside, and end it by SIGTERM.
+"""Prints what the checks of a run of `rt ci` took together, and the slowest of them, in seconds of processor time, since checks
+run beside one another: run it beside, and end it by SIGTERM.
 
 It looks a few times a second at the processes of the prover that work for this checkout. One in a crate's folder proves the
 crate; one in a copy tries an edit, which is known by what stands in the copy, or begins or ends the tries of a crate's edits.

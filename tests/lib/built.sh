@@ -17,7 +17,7 @@ samples() {
 }
 
 # Compiles the static library over the libraries that `rt ci` has just proved and left in crates/*/out, as it compiles programs, and
-# checks gateway_c. `rt lib` proves each of the 40 crates below once more, since it takes no library of `rt ci`'s.
+# checks gateway_c. `rt lib` proves each crate below once more, since it takes no library of `rt ci`'s.
 compile_over_proved() {
   local kit crate words=()
   kit=$(dirname "$(rt doc)")
@@ -31,13 +31,15 @@ compile_over_proved() {
     "$kit/bin/rattle" build --crate-name gateway_c src/lib.rt --crate-type staticlib --links gateway_c= \
       --extern std="$kit/rlibs/std.rlib" -L dependency="$kit/rlibs" "${words[@]}" \
       --antt-project "$kit/rattle/logic/antt-project.json" --logic-built "$kit/logic_built" --toolchain "$kit/toolchain" \
-      --backend llvm -o out/libgateway_c.a)
+      --backend llvm -o out/libgateway_c.a.new &&
+    touch -r ../../target/proved out/libgateway_c.a.new && mv out/libgateway_c.a.new out/libgateway_c.a)
 }
 
 # Whether no source has changed since `rt ci` passed here, of which .ci/run leaves a note.
 is_proved() {
+  local changed
   [ -e target/proved ] && [ target/proved -nt crates.txt ] &&
-    ! find crates -mindepth 2 -name out -prune -o -newer target/proved -print -quit | grep -q .
+    changed=$(find crates -mindepth 2 -name out -prune -o -newer target/proved -print -quit) && [ -z "$changed" ]
 }
 
 # Builds the static library, and puts it where C and Rust look for it.
@@ -49,10 +51,15 @@ build_library() {
   flock "$lock"
   # A folder is newer where a file in it was added or removed.
   if ! [ "$made" -nt crates.txt ] || find crates -mindepth 2 -name out -prune -o -newer "$made" -print -quit | grep -q .; then
-    if ! { is_proved && compile_over_proved >"$GATEWAY_LIBRARY_DIR/log" 2>&1; } &&
-      ! (cd crates/gateway_c && rt lib) >"$GATEWAY_LIBRARY_DIR/log" 2>&1; then
-      cat "$GATEWAY_LIBRARY_DIR/log"
-      return 1
+    if is_proved && ! compile_over_proved >"$GATEWAY_LIBRARY_DIR/log" 2>&1; then
+      echo "the library is not compiled over what is proved, so rt lib makes it:"
+      tail -n 5 "$GATEWAY_LIBRARY_DIR/log"
+    fi
+    if ! is_proved || ! [ "$made" -nt crates.txt ]; then
+      if ! (cd crates/gateway_c && rt lib) >"$GATEWAY_LIBRARY_DIR/log" 2>&1; then
+        cat "$GATEWAY_LIBRARY_DIR/log"
+        return 1
+      fi
     fi
     tail -n 1 "$GATEWAY_LIBRARY_DIR/log"
   fi

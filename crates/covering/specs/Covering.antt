@@ -1,4 +1,5 @@
--- The fields of a position, of a scene and of an update cover the bits that were read from the offset on, in order, each bit once.
+-- The fields of a position, of a scene and of an update cover the bits from the offset on, in order, each bit once: up to the end
+-- if all was read, and otherwise no further than where the reading ended.
 use Rattle.std.specs.Prelude.{ℕ, List, Bool}
 use Rattle.rules.specs.Reading.{Input}
 use Rattle.position.specs.declared.PositionSyntax.{PositionSyntax}

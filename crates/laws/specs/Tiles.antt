@@ -38,11 +38,12 @@ pub record Covered {A : Type 0} (f : ℕ) (x : Reading A) : Type 0 where
   pub covers : Covers f x.fields up_to
   pub reaches : Reaches x.result up_to x.position
 
--- of a whole call: from its offset on, or no field at all where a question of the call is not met
+-- no field, of a reading that ended
 pub record Fieldless {A : Type 0} (x : Reading A) : Type 0 where
   pub none : x.fields ≡ []
   pub how : End
   pub ended_so : x.result ≡ ended how
 
+-- of a whole call: covered from its offset on, or ended with no field, as where a question of the call is not met
 abbrev pub CallCovered : {A : Type 0} → ℕ → Reading A → Type 0
 CallCovered offset x = Fieldless x ⊎ Covered offset x

@@ -1,5 +1,5 @@
 -- What is printed of a call is the listing of the reading that the rules define, if what the call promises holds of it, with
--- whatever words it is lent. Of a part from bit 0 on that is what the show prints of it (`shown_update` of the crate `part`). And
+-- whatever words it is lent. Of a part from bit 0 on that is what the show prints of it (`shown_update` of the crate `part_fields`). And
 -- `a number without a meaning` is never printed.
 use Prim.Native.Nat.{ℕ, ◌*◌, ◌≤◌}
 use mathlib.Core.Path.{◌≡◌, refl, ap}

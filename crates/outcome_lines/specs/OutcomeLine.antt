@@ -11,6 +11,7 @@ use Rattle.numbers.specs.Meaning.{meaning}
 abbrev pub ended_text : List ℕ → ℕ → ℕ → List ℕ
 ended_text word n position = (word ++ decimal n) ++ ((ascii " at " ++ decimal position) ++ (ascii ": " ++ (meaning n ++ newline)))
 
+-- the same, its word as text
 unfoldable pub end_line : String → ℕ → ℕ → List ℕ
 end_line word n position = ended_text (ascii word) n position
 

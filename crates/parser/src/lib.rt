@@ -1,5 +1,6 @@
 // The Rust's `Parser`, and the `BitReader` in it: the bytes, the window that is read of them, the fields counted, and the lent
-// words that they are written into. Each method is the Rust's of that name.
+// words that they are written into. Each method that reads or counts is the Rust's of that name, but for `label` and `entry`, which
+// the Rust has within others.
 //
 // What a method promises is `Met` of its rule (specs/Met.antt): the parser goes from where it stands as `reading` says, to the
 // same value or end, position, end of the window and count, with every lent word as it should be, over the same bytes and words.

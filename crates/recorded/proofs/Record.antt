@@ -9,7 +9,7 @@ use Rattle.std.proofs.lemmas.Nat.{or_shifted}
 use Rattle.std.proofs.lemmas.List.{take_more, take_more_set}
 use Rattle.std.proofs.lemmas.List.Sums.{fold_push}
 use Rattle.std.proofs.lemmas.List.FromFn.{map-range_with_len_more}
-use Rattle.recorded.specs.Record.{with_byte, number_of, blanks}
+use Rattle.recorded.specs.Record.{with_byte, big_endian, blanks}
 
 -- a byte stands in the bits that a shift leaves free
 or_byte : (n b : ℕ) → b < 256 → bit_or ((n * 256) % 2 ^ 64) b ≡ with_byte n b
@@ -18,8 +18,8 @@ or_byte n b h =
     rw shifted (or_shifted (n % 2 ^ 56) 8 b h)
 
 -- one byte more is read
-pub number_more : (bytes : List ℕ) (i n : ℕ) → i < length bytes → get_or bytes i 0 < 256 → n ≡ number_of (take i bytes) → bit_or ((n * 256) % 2 ^ 64) (get_or bytes i 0) ≡ number_of (take (i + 1) bytes)
-unfolding number_of
+pub number_more : (bytes : List ℕ) (i n : ℕ) → i < length bytes → get_or bytes i 0 < 256 → n ≡ big_endian (take i bytes) → bit_or ((n * 256) % 2 ^ 64) (get_or bytes i 0) ≡ big_endian (take (i + 1) bytes)
+unfolding big_endian
 number_more bytes i n inside h e = or_byte n (get_or bytes i 0) h ∙ rw (take_more bytes i 0 inside, fold_push with_byte 0 (take i bytes) (get_or bytes i 0), e) refl
 
 -- one place more is blank

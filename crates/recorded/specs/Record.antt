@@ -19,8 +19,8 @@ abbrev pub with_byte : ℕ → ℕ → ℕ
 with_byte number byte = (number * 256) % 2 ^ 64 + byte
 
 -- the number that bytes are, the highest first
-unfoldable pub number_of : List ℕ → ℕ
-number_of bytes = fold with_byte 0 bytes
+unfoldable pub big_endian : List ℕ → ℕ
+big_endian bytes = fold with_byte 0 bytes
 
 -- the code of what a record asks for
 abbrev pub code_of : Kind → ℕ
@@ -39,7 +39,7 @@ Decodes n r = MatchResult r (λ kind. code_of kind ≡ n) (λ _. (kind : Kind) �
 
 -- the number that a head has in its bytes from one to another
 abbrev pub field_of : List ℕ → ℕ → ℕ → ℕ
-field_of head from to = number_of (slice_range head from to)
+field_of head from to = big_endian (slice_range head from to)
 
 -- the outcome of a code and a number, if it is one: what was read has the number 0
 abbrev pub outcome_from : ℕ → ℕ → Option Outcome

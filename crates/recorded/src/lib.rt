@@ -4,7 +4,7 @@
 
 ghost use Rattle.std.specs.Prelude.{◌≡◌, ◌≤◌, ◌↔◌, ◌==◌, ℕ, nat_eq, List, length, take, slice_index, Some, IfOk, IsTrue};
 ghost use Rattle.std.specs.Io.KnownBytes.{Consumes};
-ghost use Rattle.recorded.specs.Record.{number_of, Decodes, field_of, outcome_from, answer_in, blanks, blank_word};
+ghost use Rattle.recorded.specs.Record.{big_endian, Decodes, field_of, outcome_from, answer_in, blanks, blank_word};
 ghost use Rattle.recorded.specs.Record.{are_blank, bytes_of, BeginsWithNext, NextIs, shape_of, text_answer};
 
 use position::PositionSyntax;
@@ -56,9 +56,9 @@ impl TryFrom<u64> for Kind {
 }
 
 // The number that bytes hold, the highest first.
-#[tactic(auto, using(crate::proofs::Record::number_more), unfolding(crate::specs::Record::number_of))]
+#[tactic(auto, using(crate::proofs::Record::number_more), unfolding(crate::specs::Record::big_endian))]
 pub fn number(bytes: &[u8]) -> u64
-    ensures { result ≡ number_of bytes.now }
+    ensures { result ≡ big_endian bytes.now }
 {
     let mut number = 0;
     for &byte in bytes {
@@ -246,7 +246,7 @@ pub trait Place: Copy + PartialEq {
 impl Place for u64 {
     ghost blank_of = { blank_word };
 
-    ghost value_of = { number_of };
+    ghost value_of = { big_endian };
 
     ghost size = { 8 };
 
@@ -311,7 +311,7 @@ pub fn is_recorded<T: Place, R: Read>(input: &mut R, lent: &[T], n: usize) -> bo
 
 // The next count, of 2 bytes.
 pub fn next_count<R: Read>(input: &mut R) -> usize
-    ensures { NextIs 2 number_of (R.remaining input.old) (R.remaining input.new) result }
+    ensures { NextIs 2 big_endian (R.remaining input.old) (R.remaining input.new) result }
 {
     number(&next_bytes::<2, R>(input)) as usize
 }
