@@ -35,31 +35,35 @@ compile_over_proved() {
     touch -r ../../target/proved out/libgateway_c.a.new && mv out/libgateway_c.a.new out/libgateway_c.a)
 }
 
-# Whether no source has changed since `rt ci` passed here, of which .ci/run leaves a note.
+# Whether `rt ci` has passed here, of which .ci/run leaves a note, no source has changed since, and the library is there that
+# gateway_c stands on: of a crate that an earlier run proved, `rt ci` leaves none unless a crate above it is proved again.
 is_proved() {
   local changed
-  [ -e target/proved ] && [ target/proved -nt crates.txt ] &&
+  [ -e target/proved ] && [ target/proved -nt crates.txt ] && [ -e crates/gateway/out/rlib/gateway.rlib ] &&
     changed=$(find crates -mindepth 2 -name out -prune -o -newer target/proved -print -quit) && [ -z "$changed" ]
 }
 
 # Builds the static library, and puts it where C and Rust look for it.
 build_library() {
   export GATEWAY_LIBRARY_DIR=$PWD/target/staticlib
-  local lock made=crates/gateway_c/out/libgateway_c.a
+  local lock compiled made=crates/gateway_c/out/libgateway_c.a
   mkdir -p "$GATEWAY_LIBRARY_DIR"
   exec {lock}>"$GATEWAY_LIBRARY_DIR/lock"
   flock "$lock"
   # A folder is newer where a file in it was added or removed.
   if ! [ "$made" -nt crates.txt ] || find crates -mindepth 2 -name out -prune -o -newer "$made" -print -quit | grep -q .; then
-    if is_proved && ! compile_over_proved >"$GATEWAY_LIBRARY_DIR/log" 2>&1; then
-      echo "the library is not compiled over what is proved, so rt lib makes it:"
-      tail -n 5 "$GATEWAY_LIBRARY_DIR/log"
-    fi
-    if ! is_proved || ! [ "$made" -nt crates.txt ]; then
-      if ! (cd crates/gateway_c && rt lib) >"$GATEWAY_LIBRARY_DIR/log" 2>&1; then
-        cat "$GATEWAY_LIBRARY_DIR/log"
-        return 1
+    compiled=''
+    if is_proved; then
+      if compile_over_proved >"$GATEWAY_LIBRARY_DIR/log" 2>&1; then
+        compiled=1
+      else
+        echo "the library is not compiled over what is proved, so rt lib makes it:"
+        tail -n 5 "$GATEWAY_LIBRARY_DIR/log"
       fi
+    fi
+    if [ -z "$compiled" ] && ! (cd crates/gateway_c && rt lib) >"$GATEWAY_LIBRARY_DIR/log" 2>&1; then
+      cat "$GATEWAY_LIBRARY_DIR/log"
+      return 1
     fi
     tail -n 1 "$GATEWAY_LIBRARY_DIR/log"
   fi
