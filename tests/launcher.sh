@@ -61,7 +61,7 @@ launched() {
 }
 
 building() {
-  printf '%s\n' "$name: not built yet: rt now proves it and all that it calls, once, which may take half an hour or more" \
+  printf '%s\n' "$name: not built yet: rt now proves it and all that it calls, once, which may take a quarter of an hour" \
     "$name: proving low" "$name: proving $crate" "$@" >"$work/told"
 }
 
