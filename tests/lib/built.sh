@@ -35,8 +35,7 @@ compile_over_proved() {
     touch -r ../../target/proved out/libgateway_c.a.new && mv out/libgateway_c.a.new out/libgateway_c.a)
 }
 
-# Whether `rt ci` has passed here, of which .ci/run leaves a note, no source has changed since, and the library is there that
-# gateway_c stands on: of a crate that an earlier run proved, `rt ci` leaves none unless a crate above it is proved again.
+# Whether `rt ci` has passed here, of which .ci/run leaves a note, no source has changed since, and what gateway_c stands on is there.
 is_proved() {
   local changed
   [ -e target/proved ] && [ target/proved -nt crates.txt ] && [ -e crates/gateway/out/rlib/gateway.rlib ] &&
