@@ -127,7 +127,7 @@ pub record Demand1 : Type 0 where
       r ≡ exported (answer_of (validation_reading (length shapes) shapes at)) → Crossed (Validated (length shapes) at) r
   pub exported_name : (word : ℕ) (bytes : List ℕ) (r : GatewayAnswer) (after : List ℕ) →
       NameExported word (name_question word (length bytes)) bytes r after → Crossed (NameKept bytes after) r
-  -- `part::read_part`: the position is one of the part
+  -- `part_fields::read_part`: the position is one of the part
   pub part : (file : List ℕ) (k offset : ℕ) (ws : List ℕ) (r : Result Answer NotRead) (vs : List ℕ) →
       PartAnswered (part_listed file k (part_from file k offset ws)) ws r vs → PartKept (part_of file k) ws r vs
   -- `show::show`, of a file that is refused too: its line is the text that is put

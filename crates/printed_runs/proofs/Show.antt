@@ -1,4 +1,4 @@
--- Whoever owns the cells may call, and the call returns: `show::show` and `part::read_part`, from their own theorems.
+-- Whoever owns the cells may call, and the call returns: `show::show` and `part_fields::read_part`, from their own theorems.
 use mathlib.Core.Path.{◌≡◌, refl}
 use mathlib.Core.List.{List, [], ◌∷◌}
 use mathlib.Core.Logic.{∥∥₁_map}

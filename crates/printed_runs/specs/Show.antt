@@ -1,4 +1,4 @@
--- Runs of the functions over a show file: `show::show`, which puts its text into lent bytes, and `part::read_part`, as they are
+-- Runs of the functions over a show file: `show::show`, which puts its text into lent bytes, and `part_fields::read_part`, as they are
 -- in the environment γ.
 use Rattle.std.specs.Prelude.{ℕ, ◌<◌, ◌^◌, ◌≡◌, List, [], ◌∷◌, Result, length}
 use Rattle.std.specs.Int.{w64}

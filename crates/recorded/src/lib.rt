@@ -2,7 +2,8 @@
 // a text, and whether what a call answered and left is that. `oracle/README.md` says how a record is laid out.
 #![tactic(auto)]
 
-ghost use Rattle.std.specs.Prelude.{◌≡◌, ◌≤◌, ◌↔◌, ◌==◌, ℕ, nat_eq, List, length, take, slice_index, Some, IfOk, IsTrue};
+ghost use Rattle.std.specs.Prelude.{◌≡◌, ◌≤◌, ◌↔◌, ◌==◌, ℕ, nat_eq, Some, IfOk, IsTrue};
+ghost use Rattle.std.specs.Prelude.{List, length, take, slice_index};
 ghost use Rattle.std.specs.Io.KnownBytes.{Consumes};
 ghost use Rattle.recorded.specs.Record.{big_endian, Decodes, field_of, outcome_from, answer_in, blanks, blank_word};
 ghost use Rattle.recorded.specs.Record.{are_blank, bytes_of, BeginsWithNext, NextIs, shape_of, text_answer};
