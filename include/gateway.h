@@ -54,13 +54,24 @@ enum GatewayOutcome {
     GATEWAY_STOPPED = 2
 };
 
-/* What a call answers. */
+/* What a position, metadata or a name answers. */
 typedef struct {
     uint64_t outcome; /* a GatewayOutcome */
     uint64_t number;  /* 0 if read, else a GatewayNumber */
     size_t position;  /* in bits, from the first bit of the input; the end, if read */
     size_t counted;   /* the fields counted, recorded or not; of a name the bytes of its text */
 } GatewayAnswer;
+
+/* What a scene, an update or a validation answers. `deepest` is the largest rank of the shapes that
+ * it accepts: the length of the longest chain of parents. What a rank is stands at 8 below. Later
+ * libraries add fields at the end: a caller is compiled with the header of its library. */
+typedef struct {
+    uint64_t outcome; /* a GatewayOutcome */
+    uint64_t number;  /* 0 if read, else a GatewayNumber */
+    size_t position;  /* as in GatewayAnswer */
+    size_t counted;   /* the fields counted, recorded or not */
+    size_t deepest;   /* the largest rank, 0 unless read; 0 too where there are no positions */
+} GatewayGraphAnswer;
 
 /* Why a call was refused or stopped. The words beside the numbers are those of docs/NUMBERS.md.
  *
@@ -150,7 +161,7 @@ enum GatewayKind {
 
 /* What a scene answers. */
 typedef struct {
-    GatewayAnswer answer;
+    GatewayGraphAnswer answer;                    /* `deepest` is of the shapes below */
     size_t count;                                 /* the positions declared, 0 unless read */
     PositionSyntax shapes[GATEWAY_MAX_POSITIONS]; /* those beyond the count are the default */
 } GatewayScene;
@@ -168,11 +179,12 @@ GatewayScene gateway_scene(const uint8_t *bytes, size_t bytes_len, size_t offset
                            uint64_t *words, size_t words_len);
 
 /* Reads an update of all the lent shapes. They are changed only if it is read: a position whose
- * `updated` flag is 1 then has the parent and polar that the update gives it. It gives 1 to 5, 7 to
- * 9, and no stop. */
-GatewayAnswer gateway_update(const uint8_t *bytes, size_t bytes_len, size_t offset, bool recording,
-                             uint64_t *words, size_t words_len, PositionSyntax *shapes,
-                             size_t shapes_len);
+ * `updated` flag is 1 then has the parent and polar that the update gives it. `deepest` is of the
+ * shapes that it leaves, not of those from before, and 0 if it is refused. It gives 1 to 5, 7 to 9,
+ * and no stop. */
+GatewayGraphAnswer gateway_update(const uint8_t *bytes, size_t bytes_len, size_t offset,
+                                  bool recording, uint64_t *words, size_t words_len,
+                                  PositionSyntax *shapes, size_t shapes_len);
 
 /* Reads one position alone: if `full` as in a scene, otherwise as in an update, after the `updated`
  * flag. Its fields are named as those of position 1. The lent shape is changed only if it is read;
@@ -187,9 +199,10 @@ GatewayAnswer gateway_position(const uint8_t *bytes, size_t bytes_len, size_t of
 GatewayAnswer gateway_metadata(const uint8_t *bytes, size_t bytes_len, size_t offset,
                                bool recording, uint64_t *words, size_t words_len);
 
-/* Whether all positions have ranks. It gives 2, for more than 63 shapes only, then 8 or 9. Unless 2
- * is given, the position of the answer is `at`, whatever that is. No field is counted. */
-GatewayAnswer gateway_validation(const PositionSyntax *shapes, size_t shapes_len, size_t at);
+/* Whether all positions have ranks. `deepest` is the largest of them, 0 for no shapes and if it is
+ * refused. It gives 2, for more than 63 shapes only, then 8 or 9. Unless 2 is given, the position of
+ * the answer is `at`, whatever that is. No field is counted. */
+GatewayGraphAnswer gateway_validation(const PositionSyntax *shapes, size_t shapes_len, size_t at);
 
 /* Writes the text of a name word, in ASCII and with no zero byte after it. The bytes after the text
  * are unchanged, and all of them if the word is refused, by 25 or 26. The position is 0. */

@@ -37,6 +37,11 @@ static const Field ANSWER[] = {
     FIELD(GatewayAnswer, position),
     FIELD(GatewayAnswer, counted),
 };
+static const Field GRAPH_ANSWER[] = {
+    FIELD(GatewayGraphAnswer, outcome),  FIELD(GatewayGraphAnswer, number),
+    FIELD(GatewayGraphAnswer, position), FIELD(GatewayGraphAnswer, counted),
+    FIELD(GatewayGraphAnswer, deepest),
+};
 static const Field SCENE[] = {
     FIELD(GatewayScene, answer),
     FIELD(GatewayScene, count),
@@ -189,7 +194,7 @@ static GatewayScene scene(const Input *in) {
     return gateway_scene(in->bytes, bytes_of(in), in->offset, false, no_words, 0);
 }
 
-static GatewayAnswer update(const Input *in, PositionSyntax *shapes, size_t count) {
+static GatewayGraphAnswer update(const Input *in, PositionSyntax *shapes, size_t count) {
     return gateway_update(in->bytes, bytes_of(in), in->offset, false, no_words, 0, shapes, count);
 }
 
@@ -209,6 +214,24 @@ static bool is_read(GatewayAnswer answer, size_t end, size_t counted) {
 static bool is_refused(GatewayAnswer answer, uint64_t number, size_t at, size_t counted) {
     return answer.outcome == GATEWAY_REFUSED && answer.number == number && answer.position == at &&
            answer.counted == counted;
+}
+
+/* What every answer has. */
+static GatewayAnswer plain(GatewayGraphAnswer graph) {
+    GatewayAnswer answer;
+    answer.outcome = graph.outcome;
+    answer.number = graph.number;
+    answer.position = graph.position;
+    answer.counted = graph.counted;
+    return answer;
+}
+
+static bool is_ranked(GatewayGraphAnswer answer, size_t end, size_t counted, size_t deepest) {
+    return is_read(plain(answer), end, counted) && answer.deepest == deepest;
+}
+
+static bool is_unranked(GatewayGraphAnswer answer, uint64_t number, size_t at, size_t counted) {
+    return is_refused(plain(answer), number, at, counted) && answer.deepest == 0;
 }
 
 /* ---- Results. ---- */
@@ -251,6 +274,11 @@ static void *read_update(void *place) {
     return update_into(place, zeros, sizeof zeros, 0, false, no_words, 0, &shape, 1);
 }
 
+static void *refused_update(void *place) {
+    PositionSyntax shape = none;
+    return update_into(place, zeros, 0, 0, false, no_words, 0, &shape, 1);
+}
+
 static void *read_position(void *place) {
     PositionSyntax shape = none;
     return position_into(place, zeros, sizeof zeros, 0, false, no_words, 0, &shape, true);
@@ -262,6 +290,13 @@ static void *refused_metadata(void *place) {
 
 static void *read_validation(void *place) {
     return validation_into(place, &none, 1, 0);
+}
+
+/* A position that hangs on itself. */
+static void *refused_validation(void *place) {
+    PositionSyntax shape = none;
+    shape.parent = 1;
+    return validation_into(place, &shape, 1, 0);
 }
 
 static void *refused_name(void *place) {
@@ -295,14 +330,21 @@ static void mark(bool *of_a_field, const Field *fields, size_t count) {
 
 /* Only a shape has padding: elsewhere a part of a wider field could hide in it. */
 static void check_results(void) {
-    static bool of_answer[sizeof(GatewayAnswer)], of_scene[sizeof(GatewayScene)];
+    static bool of_answer[sizeof(GatewayAnswer)], of_graph[sizeof(GatewayGraphAnswer)],
+        of_scene[sizeof(GatewayScene)];
     mark(of_answer, ANSWER, LENGTH(ANSWER));
     EXPECT(memchr(of_answer, false, sizeof of_answer) == NULL);
-    check_result(read_update, sizeof(GatewayAnswer), of_answer);
     check_result(read_position, sizeof(GatewayAnswer), of_answer);
     check_result(refused_metadata, sizeof(GatewayAnswer), of_answer);
-    check_result(read_validation, sizeof(GatewayAnswer), of_answer);
     check_result(refused_name, sizeof(GatewayAnswer), of_answer);
+
+    mark(of_graph, GRAPH_ANSWER, LENGTH(GRAPH_ANSWER));
+    EXPECT(memchr(of_graph, false, sizeof of_graph) == NULL);
+    EXPECT(sizeof(GatewayGraphAnswer) == 40 && offsetof(GatewayGraphAnswer, deepest) == 32);
+    check_result(read_update, sizeof(GatewayGraphAnswer), of_graph);
+    check_result(refused_update, sizeof(GatewayGraphAnswer), of_graph);
+    check_result(read_validation, sizeof(GatewayGraphAnswer), of_graph);
+    check_result(refused_validation, sizeof(GatewayGraphAnswer), of_graph);
 
     bool *of_shapes = of_scene + offsetof(GatewayScene, shapes);
     mark(of_scene, SCENE, LENGTH(SCENE));
@@ -329,13 +371,13 @@ static void check_scenes(void) {
         for (size_t i = 0; i < count; i++)
             put_position(&input, shape_at(i));
         GatewayScene read = scene(&input);
-        EXPECT(is_read(read.answer, input.end, input.fields));
+        EXPECT(is_ranked(read.answer, input.end, input.fields, count));
         EXPECT(read.count == count);
         check_shapes(read.shapes, count);
 
         input.end -= 8;
         GatewayScene refused = scene(&input);
-        EXPECT(refused.answer.outcome == GATEWAY_REFUSED);
+        EXPECT(refused.answer.outcome == GATEWAY_REFUSED && refused.answer.deepest == 0);
         EXPECT(refused.count == 0);
         check_shapes(refused.shapes, 0);
     }
@@ -349,18 +391,18 @@ static void check_updates(void) {
     Lent original, lent;
     lend(&original);
     memcpy(&lent, &original, sizeof lent);
-    GatewayAnswer read = update(&input, lent.shapes, GATEWAY_MAX_POSITIONS);
-    EXPECT(is_read(read, input.end, input.fields));
+    GatewayGraphAnswer read = update(&input, lent.shapes, GATEWAY_MAX_POSITIONS);
+    EXPECT(is_ranked(read, input.end, input.fields, 2));
     EXPECT(kept_but(GATEWAY_MAX_POSITIONS, &lent, &original));
     for (size_t i = 0; i < GATEWAY_MAX_POSITIONS; i++)
         EXPECT(same(lent.shapes[i], moved(shape_at(i))));
 
     memcpy(&lent, &original, sizeof lent);
-    GatewayAnswer too_many = update(&input, lent.shapes, LENGTH(lent.shapes));
-    EXPECT(is_refused(too_many, GATEWAY_SHAPE_LIMIT, 0, 0));
+    GatewayGraphAnswer too_many = update(&input, lent.shapes, LENGTH(lent.shapes));
+    EXPECT(is_unranked(too_many, GATEWAY_SHAPE_LIMIT, 0, 0));
     input.end -= 8;
-    GatewayAnswer cut = update(&input, lent.shapes, GATEWAY_MAX_POSITIONS);
-    EXPECT(cut.number == GATEWAY_TRUNCATED);
+    GatewayGraphAnswer cut = update(&input, lent.shapes, GATEWAY_MAX_POSITIONS);
+    EXPECT(cut.number == GATEWAY_TRUNCATED && cut.deepest == 0);
     EXPECT(kept_but(0, &lent, &original));
 }
 
@@ -430,11 +472,11 @@ static void check_number_bytes(void) {
         EXPECT(is_refused(position_after(0, &shape), GATEWAY_SHAPE_LIMIT, 0, 0));
         shape = none;
         shape.parent = large;
-        EXPECT(is_refused(gateway_validation(&shape, 1, large), GATEWAY_SCENE_PARENT, large, 0));
-        EXPECT(is_read(gateway_validation(&none, 1, large), large, 0));
+        EXPECT(is_unranked(gateway_validation(&shape, 1, large), GATEWAY_SCENE_PARENT, large, 0));
+        EXPECT(is_ranked(gateway_validation(&none, 1, large), large, 0, 1));
         Input input = begun_at(0);
         input.offset = large;
-        EXPECT(is_refused(scene(&input).answer, GATEWAY_TRUNCATED, 0, 0));
+        EXPECT(is_unranked(scene(&input).answer, GATEWAY_TRUNCATED, 0, 0));
         EXPECT(is_refused(metadata(&input), GATEWAY_TRUNCATED, 0, 0));
     }
 }
@@ -443,11 +485,37 @@ static void check_validations(void) {
     PositionSyntax shapes[GATEWAY_MAX_POSITIONS + 1];
     for (size_t i = 0; i < LENGTH(shapes); i++)
         shapes[i] = shape_at(i);
-    EXPECT(is_read(gateway_validation(shapes, GATEWAY_MAX_POSITIONS, 77), 77, 0));
-    EXPECT(is_refused(gateway_validation(shapes, LENGTH(shapes), 77), GATEWAY_SHAPE_LIMIT, 0, 0));
-    EXPECT(is_refused(gateway_validation(shapes + 1, 1, 77), GATEWAY_SCENE_PARENT_CYCLE, 77, 0));
-    EXPECT(is_refused(gateway_validation(shapes + 2, 1, 77), GATEWAY_SCENE_PARENT, 77, 0));
-    EXPECT(is_read(gateway_validation(shapes, 0, 77), 77, 0));
+    for (size_t count = 0; count <= GATEWAY_MAX_POSITIONS; count++)
+        EXPECT(is_ranked(gateway_validation(shapes, count, 77), 77, 0, count));
+    EXPECT(is_unranked(gateway_validation(shapes, LENGTH(shapes), 77), GATEWAY_SHAPE_LIMIT, 0, 0));
+    EXPECT(is_unranked(gateway_validation(shapes + 1, 1, 77), GATEWAY_SCENE_PARENT_CYCLE, 77, 0));
+    EXPECT(is_unranked(gateway_validation(shapes + 2, 1, 77), GATEWAY_SCENE_PARENT, 77, 0));
+    shapes[GATEWAY_MAX_POSITIONS - 1].parent = 7;
+    EXPECT(is_ranked(gateway_validation(shapes, GATEWAY_MAX_POSITIONS, 77), 77, 0, 62));
+}
+
+static const uint8_t WORKED[] = {0x0A, 0x00, 0x80, 0x80, 0x00, 0x80};
+
+/* Document 01's show: the last packet is refused, unless position 2 is freed before. */
+static void check_worked_example(void) {
+    static const uint8_t first_on_second[] = {0xC1, 0x00}, second_freed[] = {0x70};
+    GatewayScene read = gateway_scene(WORKED, sizeof WORKED, 0, false, no_words, 0);
+    EXPECT(is_ranked(read.answer, 48, 20, 2));
+    struct {
+        const uint8_t *bytes;
+        size_t bytes_len, end, counted, deepest;
+    } packets[] = {
+        {first_on_second, sizeof first_on_second, 13, 8, 0},
+        {second_freed, sizeof second_freed, 7, 7, 1},
+        {first_on_second, sizeof first_on_second, 13, 8, 2},
+    };
+    for (size_t i = 0; i < LENGTH(packets); i++) {
+        GatewayGraphAnswer answer = gateway_update(packets[i].bytes, packets[i].bytes_len, 0, false,
+                                                   no_words, 0, read.shapes, read.count);
+        size_t end = packets[i].end, counted = packets[i].counted, deepest = packets[i].deepest;
+        EXPECT(deepest == 0 ? is_unranked(answer, GATEWAY_SCENE_PARENT_CYCLE, end, counted)
+                            : is_ranked(answer, end, counted, deepest));
+    }
 }
 
 /* A name word of these parts. */
@@ -459,13 +527,12 @@ static uint64_t word(uint64_t leaf, uint64_t block, uint64_t i, uint64_t j, uint
 /* What the readings below record. It holds a pattern before. */
 static uint64_t words[200];
 
-static const uint8_t WORKED[] = {0x0A, 0x00, 0x80, 0x80, 0x00, 0x80};
 static const uint8_t UPDATE[] = {0x40};
 static const uint8_t PAYLOAD[] = {0xC1, 0xFF, 0x80};
 static const uint8_t LABEL[] = {0x63, 0x20, 0x82, 0x00, 0x00, 0x00};
 
 static GatewayAnswer record_scene(bool recording, size_t room) {
-    return gateway_scene(WORKED, sizeof WORKED, 0, recording, words, room).answer;
+    return plain(gateway_scene(WORKED, sizeof WORKED, 0, recording, words, room).answer);
 }
 
 static GatewayAnswer record_position(bool recording, size_t room) {
@@ -475,7 +542,8 @@ static GatewayAnswer record_position(bool recording, size_t room) {
 
 static GatewayAnswer record_update(bool recording, size_t room) {
     PositionSyntax shapes[2] = {none, none};
-    return gateway_update(UPDATE, sizeof UPDATE, 0, recording, words, room, shapes, LENGTH(shapes));
+    return plain(gateway_update(UPDATE, sizeof UPDATE, 0, recording, words, room, shapes,
+                                LENGTH(shapes)));
 }
 
 static GatewayAnswer record_payload(bool recording, size_t room) {
@@ -597,7 +665,8 @@ static bool has(GatewayAnswer answer, uint64_t number) {
 static void check_cases(void) {
     for (size_t i = 0; i < LENGTH(SCENES); i++) {
         Input input = input_of(SCENES[i]);
-        EXPECT(has(scene(&input).answer, SCENES[i].number));
+        GatewayGraphAnswer answer = scene(&input).answer;
+        EXPECT(has(plain(answer), SCENES[i].number) && answer.deepest == 0);
     }
     for (size_t i = 0; i < LENGTH(METADATA); i++) {
         Input input = input_of(METADATA[i]);
@@ -665,6 +734,7 @@ int main(void) {
     check_shape_fields();
     check_number_bytes();
     check_validations();
+    check_worked_example();
     check_recordings();
     check_names();
     check_cases();
@@ -674,6 +744,8 @@ int main(void) {
     check_string_limit();
     print_layout("PositionSyntax", sizeof(PositionSyntax), SHAPE, LENGTH(SHAPE));
     print_layout("GatewayAnswer", sizeof(GatewayAnswer), ANSWER, LENGTH(ANSWER));
+    print_layout("GatewayGraphAnswer", sizeof(GatewayGraphAnswer), GRAPH_ANSWER,
+                 LENGTH(GRAPH_ANSWER));
     print_layout("GatewayScene", sizeof(GatewayScene), SCENE, LENGTH(SCENE));
     print_limits();
 }

@@ -31,7 +31,7 @@ build_oracle
 samples 14 | grep '^show ' >"$work/shows"
 "$oracle" answer <"$work/shows" >"$work/answers"
 shown=0
-while read -r _ file <&3 && read -r _ _ _ _ _ _ _ text <&4; do
+while read -r _ file <&3 && read -r _ _ _ _ _ _ _ _ text <&4; do
   hex=${file#-}
   printf "$(sed 's/../\\x&/g' <<<"$hex")" >"$work/file"
   printf '%s' "${text//\//$'\n'}" >"$work/expected"

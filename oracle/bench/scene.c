@@ -256,14 +256,18 @@ INLINE bool read_position(Reader *r, PositionSyntax *shape)
     return !extended || read_extensions(r);
 }
 
-/* Walks up from each position to one that has a rank. Sets of positions are the bits of a word. */
-static uint64_t validate(const PositionSyntax *shapes, size_t count)
+/* Walks up from each position to one that has a rank, and then once more, to give each one on the
+ * way its rank. Sets of positions are the bits of a word. */
+static uint64_t validate(const PositionSyntax *shapes, size_t count, size_t *deepest)
 {
-    uint64_t ranked = 1; /* parent 0 */
+    uint64_t ranked = 1;                           /* parent 0, whose rank is 0 */
+    uint8_t rank[GATEWAY_MAX_POSITIONS + 1] = {0}; /* of the positions that are ranked */
+    uint8_t most = 0;
     for (size_t first = 1; first <= count; first++) {
         uint64_t visited = 0;
+        uint8_t steps = 0;
         size_t current = first;
-        while (!(ranked >> current & 1)) {
+        for (; !(ranked >> current & 1); steps++) {
             if (current > count)
                 return GATEWAY_SCENE_PARENT;
             if (visited >> current & 1)
@@ -272,7 +276,15 @@ static uint64_t validate(const PositionSyntax *shapes, size_t count)
             current = shapes[current - 1].parent;
         }
         ranked |= visited;
+        uint8_t next = rank[current] + steps;
+        if (next > most)
+            most = next;
+        for (current = first; steps > 0; steps--) {
+            rank[current] = next--;
+            current = shapes[current - 1].parent;
+        }
     }
+    *deepest = most;
     return 0;
 }
 
@@ -288,7 +300,7 @@ INLINE bool read_scene(Reader *r, GatewayScene *scene)
         TRY(read_position(r, &scene->shapes[i]));
     }
     scene->count = count;
-    r->number = validate(scene->shapes, count);
+    r->number = validate(scene->shapes, count, &scene->answer.deepest);
     return r->number == 0;
 }
 
@@ -320,7 +332,7 @@ void scene_by_hand(const uint8_t *bytes, size_t bytes_len, size_t offset, bool r
     scene->answer.position = r.position;
     scene->answer.counted = r.counted;
     if (!is_read)
-        scene->count = 0;
+        scene->count = scene->answer.deepest = 0;
     size_t beyond = GATEWAY_MAX_POSITIONS - scene->count;
     memset(scene->shapes + scene->count, 0, beyond * sizeof *scene->shapes);
 }

@@ -1,6 +1,6 @@
 //! Answers in the words of document 01, and the text lines that carry them.
 use crate::request::{Shape, shape_list};
-use crate::text::joined;
+use crate::text::{joined, or_none};
 use apac::numbers::{self, REFUSALS, STOPS};
 use apac::run::End;
 use apac::{ConfigField, DigestUnit, FieldValue};
@@ -44,6 +44,9 @@ pub struct Answer {
     /// The fields counted, the length of a text, or the number of a list's packets. With recording
     /// off no field is listed.
     pub count: usize,
+    /// The largest rank of the shapes that a scene, an update or a validation accepts, 0 unless it
+    /// is read. Other kinds have none.
+    pub deepest: Option<usize>,
     pub shapes: Vec<Shape>,
     pub fields: Vec<Field>,
     /// The text of a name that was read, or what is printed for a show.
@@ -112,13 +115,17 @@ impl From<ConfigField> for Field {
     }
 }
 
+/// The kinds of answers that have a largest rank.
+const RANKED: [&str; 3] = ["scene", "update", "validation"];
+
 impl Answer {
-    /// An answer without fields, with the shapes that were handed in.
+    /// An answer without fields, with the shapes that were handed in and a largest rank of 0.
     pub fn bare(kind: &'static str, verdict: Verdict, given: &[Shape]) -> Self {
         Self {
             kind,
             verdict,
             count: 0,
+            deepest: RANKED.contains(&kind).then_some(0),
             shapes: given.to_vec(),
             fields: Vec::new(),
             text: None,
@@ -192,11 +199,12 @@ impl fmt::Display for Answer {
             position,
         } = &self.verdict;
         let Self { kind, count, .. } = self;
+        let deepest = or_none(self.deepest);
         let positions = self.positions();
         let shapes = shape_list(&self.shapes);
         write!(
             f,
-            "{kind} {outcome} {number} {position} {count} {positions} {shapes} "
+            "{kind} {outcome} {number} {position} {count} {deepest} {positions} {shapes} "
         )?;
         match &self.text {
             Some(text) => f.write_str(&text.replace('\n', "/")),

@@ -2,6 +2,7 @@
 use crate::answer::{Answer, Field, Outcome, Verdict};
 use crate::label;
 use crate::names;
+use crate::ranks;
 use crate::request::{Call, Input, List, Question, Request, Shape};
 use crate::show;
 use apac::run::{End, Reading, Run};
@@ -76,7 +77,19 @@ fn answer_validation(at: u64, shapes: &[Shape]) -> Answer {
     } else {
         guarded(validated).unwrap_or_else(Verdict::without_number)
     };
-    Answer::bare("validation", verdict, &[])
+    ranked(Answer::bare("validation", verdict, &[]), shapes)
+}
+
+/// The answer with the largest rank of these shapes, if it has one and was read. That some of them
+/// have no ranks would be `disagree`.
+fn ranked(answer: Answer, shapes: &[Shape]) -> Answer {
+    if answer.deepest.is_none() || answer.verdict.outcome != Outcome::Read {
+        return answer;
+    }
+    match ranks::deepest(shapes) {
+        None => Answer::bare(answer.kind, Verdict::without_number(Outcome::Disagree), &[]),
+        deepest => Answer { deepest, ..answer },
+    }
 }
 
 /// Questions 25 and 26. The Rust has no words, so the tables of docs/FIELDS.md answer.
@@ -188,15 +201,34 @@ fn answer_run(call: &Call, run: Run) -> Answer {
         Outcome::Read => &run.shapes,
         _ => call.question.shapes(),
     };
-    Answer {
+    let answer = Answer {
         count: fields.len(),
         fields: if call.recording { fields } else { Vec::new() },
         ..Answer::bare(call.question.kind(), verdict, shapes)
-    }
+    };
+    ranked(answer, shapes)
 }
 
 /// The field for which no five words remain, if the Rust records it.
 fn full_at(call: &Call, fields: &[Field]) -> Option<usize> {
     let full = (call.room / FIELD_WORDS) as usize;
     (call.recording && full < fields.len()).then_some(full)
+}
+
+#[cfg(test)]
+mod tests {
+    use super::*;
+
+    /// What the Rust never reads.
+    #[test]
+    fn shapes_without_ranks() {
+        let circle = [Shape {
+            parent: 1,
+            ..Shape::default()
+        }];
+        let read = Verdict::without_number(Outcome::Read);
+        let answer = |kind| ranked(Answer::bare(kind, read.clone(), &[]), &circle);
+        assert_eq!(answer("update").verdict.outcome, Outcome::Disagree);
+        assert_eq!(answer("position").verdict.outcome, Outcome::Read);
+    }
 }

@@ -10,6 +10,7 @@ mod label;
 pub mod listing;
 pub mod names;
 pub mod program;
+mod ranks;
 pub mod record;
 pub mod request;
 mod rng;

@@ -102,9 +102,12 @@ fn put_given(record: &mut Vec<u8>, request: &Request) -> Result<(), String> {
     put_shapes(record, request.shapes())
 }
 
-/// The shapes after the call, a scene's with their number before them, the fields, the text of a
-/// name or a show.
+/// The largest rank, the shapes after the call, a scene's with their number before them, the
+/// fields, the text of a name or a show.
 fn put_result(record: &mut Vec<u8>, answer: &Answer) -> Result<(), String> {
+    if let Some(deepest) = answer.deepest {
+        record.push(fitting::<u8>(deepest)?);
+    }
     if answer.kind == "scene" {
         record.extend(fitting::<u16>(answer.shapes.len())?.to_be_bytes());
     }
@@ -184,11 +187,19 @@ mod tests {
     fn scenes() {
         let head = "01_01_00000005_0000000000000000_00000001_0000_00_00_0000000000000006_00000001";
         let words = digits([0, 6, 1, 0, 257]);
-        check("scene 0 1 5 00", &[&plain(head), "00", "0000", &words]);
+        check(
+            "scene 0 1 5 00",
+            &[&plain(head), "00", "00", "0000", &words],
+        );
         let head = "01_00_00000000_0000000000000000_00000006_0000_00_00_0000000000000030_00000014";
         let input = "0a0080800080";
         let line = format!("scene 0 0 0 {input}");
-        check(&line, &[&plain(head), input, "0002", STILL, HUNG]);
+        check(&line, &[&plain(head), input, "02", "0002", STILL, HUNG]);
+        let head = "01_00_00000000_0000000000000000_00000004_0000_01_08_000000000000001e_0000000b";
+        check(
+            "scene 0 0 0 04000400",
+            &[&plain(head), "04000400", "00", "0000"],
+        );
     }
 
     fn plain(digits: &str) -> String {
@@ -204,7 +215,12 @@ mod tests {
     fn updates() {
         let head = "02_00_00000000_0000000000000000_00000001_0002_00_00_0000000000000007_00000007";
         let line = "update 0 0 0 1:0:0:0:0:0,1:0:0:0:1:0 70";
-        check(line, &[&plain(head), "70", STILL, HUNG, STILL, STILL]);
+        let given = [&plain(head), "70", STILL, HUNG];
+        check(line, &[&given[..], &["01", STILL, STILL]].concat());
+        let head = "02_00_00000000_0000000000000000_00000002_0002_01_09_000000000000000d_00000008";
+        let line = "update 0 0 0 1:0:0:0:0:0,1:0:0:0:1:0 c100";
+        let given = [&plain(head), "c100", STILL, HUNG];
+        check(line, &[&given[..], &["00", STILL, HUNG]].concat());
     }
 
     #[test]
@@ -220,7 +236,10 @@ mod tests {
     #[test]
     fn validations() {
         let head = "04_00_00000000_000000000000004d_00000000_0001_01_09_000000000000004d_00000000";
-        check("validation 77 1:0:0:0:1:0", &[&plain(head), HUNG]);
+        check("validation 77 1:0:0:0:1:0", &[&plain(head), HUNG, "00"]);
+        let head = "04_00_00000000_000000000000004d_00000000_0002_00_00_000000000000004d_00000000";
+        let line = "validation 77 1:0:0:0:0:0,1:0:0:0:1:0";
+        check(line, &[&plain(head), STILL, HUNG, "02"]);
     }
 
     #[test]
@@ -236,8 +255,11 @@ mod tests {
 
     #[test]
     fn shows() {
-        let head = "07_00_00000000_0000000000000000_00000008_0000_00_00_0000000000000000_00000017";
-        let (file, text) = ("0001000000060000", hex(b"part 0 read 6 fields 1\n"));
+        let head = "07_00_00000000_0000000000000000_00000008_0000_00_00_0000000000000000_00000021";
+        let (file, text) = (
+            "0001000000060000",
+            hex(b"part 0 read 6 fields 1\ndeepest 0\n"),
+        );
         check(&format!("show {file}"), &[&plain(head), file, &text]);
         let head = "07_00_00000000_0000000000000000_00000001_0000_01_18_0000000000000000_00000010";
         let text = hex(b"file refused 24\n");
@@ -259,7 +281,7 @@ mod tests {
             (format!("validation 0 {shapes}"), 63),
         ] {
             let record = recorded(&line);
-            assert_eq!(record.len(), 34 + 20 * written);
+            assert_eq!(record.len(), 34 + 20 * written + 1);
             assert_eq!(record[18..20], [0, 70]);
         }
     }

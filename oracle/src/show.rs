@@ -1,7 +1,8 @@
-//! Show files. Their header and the printed lines are document 01's, and the ranks are counted here;
-//! what the parts give is asked of the Rust.
+//! Show files. Their header is document 01's, the printed lines are its and document 02's, and the
+//! ranks are the oracle's; what the parts give is asked of the Rust.
 use crate::answer::{Answer, Outcome, Verdict};
 use crate::driver::read;
+use crate::ranks::ranks;
 use crate::request::{Input, Question, Shape};
 
 /// The most bytes of a file, and the most parts.
@@ -77,9 +78,9 @@ fn printed(parts: &[&[u8]]) -> Result<String, Outcome> {
     for (k, answer) in answers.iter().enumerate() {
         text += &part_line(k, answer)?;
     }
-    // A scene that was not read has left no shapes, and so has no lines of positions.
-    if let Some(last) = answers.last() {
-        text += &position_lines(&last.shapes)?;
+    // After a part 0 that was not read nothing is asked, and no line follows its own.
+    if let Some(Question::Update(shapes)) = next_question(&answers) {
+        text += &position_lines(&shapes)?;
     }
     Ok(text)
 }
@@ -124,28 +125,18 @@ fn part_line(k: usize, answer: &Answer) -> Result<String, Outcome> {
     }
 }
 
-/// One line for each position. The Rust has validated the parents, so that all have a rank.
+/// One line for each position, and then the largest rank of these lines, 0 if there are none. The
+/// Rust has validated the parents, so that all have a rank.
 fn position_lines(shapes: &[Shape]) -> Result<String, Outcome> {
-    let line = |(i, shape): (usize, &Shape)| {
+    let mut text = String::new();
+    let mut deepest = 0;
+    for (i, (shape, rank)) in shapes.iter().zip(ranks(shapes)).enumerate() {
         let (position, parent) = (i + 1, shape.parent);
-        let rank = rank(shapes, position)?;
-        Some(format!("position {position} parent {parent} rank {rank}\n"))
-    };
-    let lines: Option<String> = shapes.iter().enumerate().map(line).collect();
-    lines.ok_or(Outcome::Disagree)
-}
-
-/// The rank is 1 if the parent is 0, else one more than that of the parent. There is none if a
-/// parent is not declared, or if 0 is not reached in as many steps as there are positions.
-fn rank(shapes: &[Shape], position: usize) -> Option<usize> {
-    let mut parent = position;
-    for rank in 1..=shapes.len() {
-        parent = shapes.get(parent - 1)?.parent;
-        if parent == 0 {
-            return Some(rank);
-        }
+        let rank = rank.ok_or(Outcome::Disagree)?;
+        text += &format!("position {position} parent {parent} rank {rank}\n");
+        deepest = deepest.max(rank);
     }
-    None
+    Ok(text + &format!("deepest {deepest}\n"))
 }
 
 #[cfg(test)]
@@ -164,6 +155,7 @@ part 2 read 7 fields 7
 part 3 read 13 fields 8
 position 1 parent 2 rank 2
 position 2 parent 0 rank 1
+deepest 2
 ";
 
     fn text(file: &[u8]) -> String {
@@ -177,7 +169,7 @@ position 2 parent 0 rank 1
         let length = LINES.len();
         assert_eq!(
             answer(&EXAMPLE).to_string(),
-            format!("show read 0 0 {length} 0 - {line}")
+            format!("show read 0 0 {length} - 0 - {line}")
         );
     }
 
@@ -192,7 +184,7 @@ position 2 parent 0 rank 1
         assert_eq!(text(&file), "file refused 23\n");
         file.pop();
         let line = answer(&file).to_string();
-        assert_eq!(line, "show refused 24 0 16 0 - file refused 24/");
+        assert_eq!(line, "show refused 24 0 16 - 0 - file refused 24/");
     }
 
     /// A file with these offsets, and after its header so many bytes of a scene of no positions.
@@ -231,7 +223,7 @@ position 2 parent 0 rank 1
         assert_eq!(text(&with_offsets(&[10, 10], 1)), empty);
         assert_eq!(
             text(&with_offsets(&[10, 19], 9)),
-            "part 0 read 6 fields 1\npart 1 read 0 fields 0\n"
+            "part 0 read 6 fields 1\npart 1 read 0 fields 0\ndeepest 0\n"
         );
         let most = text(&with_offsets(&[2 + 4 * 256; 256], 9));
         assert_eq!(most, empty);
@@ -245,13 +237,32 @@ position 2 parent 0 rank 1
         parents.iter().map(shape).collect()
     }
 
+    /// The largest rank is not always that of the last position, nor of the first.
     #[test]
-    fn ranks() {
-        let shapes = hung(&[3, 0, 2, 2, 1]);
-        let ranks: Vec<_> = (1..=5).map(|position| rank(&shapes, position)).collect();
-        assert_eq!(ranks, [3, 1, 2, 2, 4].map(Some));
+    fn deepest_of_the_lines() {
+        let last = |parents: &[usize]| {
+            let text = position_lines(&hung(parents)).expect("lines");
+            String::from(text.lines().next_back().expect("a line"))
+        };
+        assert_eq!(last(&[]), "deepest 0");
+        assert_eq!(last(&[0, 0]), "deepest 1");
+        assert_eq!(last(&[0, 1, 2, 0]), "deepest 3");
         let chain: Vec<usize> = (0..63).collect();
-        assert_eq!(rank(&hung(&chain), 63), Some(63));
+        assert_eq!(last(&chain), "deepest 63");
+    }
+
+    /// The line is of the shapes that stay, also after a refused update, which itself gives 0.
+    #[test]
+    fn deepest_after_a_refused_update() {
+        let mut file = with_offsets(&[10, 16], 0);
+        file.extend(&EXAMPLE[18..26]);
+        let lines = "part 0 read 48 fields 20
+part 1 refused 9 at 13
+position 1 parent 0 rank 1
+position 2 parent 1 rank 2
+deepest 2
+";
+        assert_eq!(text(&file), lines);
     }
 
     /// What the Rust never hands over: it would show as an outcome of the whole file.
@@ -273,7 +284,7 @@ position 2 parent 0 rank 1
             assert_eq!(part_line(1, &answer), Err(odd));
         }
         let line = shown(Err(Outcome::Panic)).to_string();
-        assert_eq!(line, "show panic 0 0 0 0 - -");
+        assert_eq!(line, "show panic 0 0 0 - 0 - -");
         let stopped = Verdict {
             outcome: Outcome::Stopped,
             ..Verdict::refused(34, 5)

@@ -34,7 +34,7 @@ const ENOUGH: usize = 5;
 const ADDED: [u8; 8] = [0, 1, 2, 5, 23, 24, 25, 26];
 
 /// The place of a list's packets in its answer line, counted from 0.
-const PACKETS: usize = 7;
+const PACKETS: usize = 8;
 
 type Row = [usize; ENDS.len()];
 
@@ -181,17 +181,17 @@ mod tests {
     #[test]
     fn shows() {
         let mut table = counted(&[
-            (5, "show read 0 0 23 0 - part 0 read 6 fields 1/"),
-            (4, "show refused 23 0 16 0 - file refused 23/"),
-            (5, "show refused 24 0 16 0 - file refused 24/"),
+            (5, "show read 0 0 23 - 0 - part 0 read 6 fields 1/"),
+            (4, "show refused 23 0 16 - 0 - file refused 23/"),
+            (5, "show refused 24 0 16 - 0 - file refused 24/"),
         ]);
         assert_eq!(table.rare(), ["show 23"]);
         assert!(!table.is_sound());
-        let line = "show refused 23 0 16 0 - file refused 23/";
+        let line = "show refused 23 0 16 - 0 - file refused 23/";
         table.count_line(line).expect("an answer");
         assert!(table.is_sound());
         table
-            .count_line("show disagree 0 0 0 0 - -")
+            .count_line("show disagree 0 0 0 - 0 - -")
             .expect("an answer");
         assert!(!table.is_sound());
     }
@@ -218,7 +218,7 @@ mod tests {
         for line in [
             "",
             "scene",
-            "list read 0 0 0 0 - -",
+            "list read 0 0 0 - 0 - -",
             "list",
             "lists read 0 0 0 0 - -",
         ] {

@@ -31,31 +31,31 @@ fn show_parts() {
     let scene = ask("scene 0 0 0 0a0080800080");
     assert_eq!(
         scene.to_string(),
-        "scene read 0 48 20 2 1:0:0:0:0:0,1:0:0:0:1:0 -"
+        "scene read 0 48 20 2 2 1:0:0:0:0:0,1:0:0:0:1:0 -"
     );
     let before = "1:0:0:0:0:0,1:0:0:0:1:0";
     let cycle = format!("update 0 0 0 {before} c100");
     assert_eq!(
         ask(&cycle).to_string(),
-        format!("update refused 9 13 8 0 {before} -")
+        format!("update refused 9 13 8 0 0 {before} -")
     );
     let freed = "1:0:0:0:0:0,1:0:0:0:0:0";
     assert_eq!(
         ask(&format!("update 0 0 0 {before} 70")).to_string(),
-        format!("update read 0 7 7 0 {freed} -")
+        format!("update read 0 7 7 1 0 {freed} -")
     );
     assert_eq!(
         ask(&format!("update 0 0 0 {freed} c100")).to_string(),
-        "update read 0 13 8 0 1:0:0:0:2:0,1:0:0:0:0:0 -"
+        "update read 0 13 8 2 0 1:0:0:0:2:0,1:0:0:0:0:0 -"
     );
 }
 
 /// The answers of a list's packets.
 fn packets(line: &str) -> Vec<String> {
     let text = ask(line).to_string();
-    let (head, packets) = text.split_at("list read 0 0 N 0 - ".len());
+    let (head, packets) = text.split_at("list read 0 0 N - 0 - ".len());
     let packets: Vec<String> = packets.split('|').map(String::from).collect();
-    assert_eq!(head, format!("list read 0 0 {} 0 - ", packets.len()));
+    assert_eq!(head, format!("list read 0 0 {} - 0 - ", packets.len()));
     packets
 }
 
@@ -68,18 +68,18 @@ fn lists() {
     assert_eq!(
         packets("list 0 0 0:0a0080800080 0:c100,3:ee00,9:-,1:6080"),
         [
-            format!("scene read 0 48 20 2 {before} -"),
-            format!("update refused 9 13 8 0 {before} -"),
-            format!("update read 0 10 7 0 {freed} -"),
-            format!("update refused 3 0 0 0 {freed} -"),
-            "update read 0 14 8 0 1:0:0:0:2:0,1:0:0:0:0:0 -".into(),
+            format!("scene read 0 48 20 2 2 {before} -"),
+            format!("update refused 9 13 8 0 0 {before} -"),
+            format!("update read 0 10 7 1 0 {freed} -"),
+            format!("update refused 3 0 0 0 0 {freed} -"),
+            "update read 0 14 8 2 0 1:0:0:0:2:0,1:0:0:0:0:0 -".into(),
         ]
     );
 }
 
 #[test]
 fn lists_without_shapes() {
-    let empty = ["scene refused 6 6 1 0 - -", "update read 0 5 0 0 - -"];
+    let empty = ["scene refused 6 6 1 0 0 - -", "update read 0 5 0 0 0 - -"];
     assert_eq!(packets("list 0 0 0:04 5:ff"), empty);
     assert_eq!(packets("list 0 0 0:04 -"), empty[..1]);
 }
@@ -127,7 +127,7 @@ fn lines_of_lists() {
 #[test]
 fn escaped_number() {
     let line = ask("fields 0 1 5 e4.7.10@42 f000").to_string();
-    assert_eq!(line, "fields read 0 11 1 0 - 0:11:1:15:42");
+    assert_eq!(line, "fields read 0 11 1 - 0 - 0:11:1:15:42");
 }
 
 /// A configuration with one table of binary32 values and nothing else.
@@ -235,23 +235,64 @@ fn validation() {
     assert_eq!(verdict("validation 77 -"), "read 0 77 0");
     assert_eq!(verdict("validation 77 0:0:0:0:2:0"), "refused 8 77 0");
     assert_eq!(verdict("validation 77 0:0:0:0:1:0"), "refused 9 77 0");
+    let line = ask("validation 77 1:0:0:0:0:0,1:0:0:0:1:0").to_string();
+    assert_eq!(line, "validation read 0 77 0 2 0 - -");
+}
+
+/// Each update is asked of three positions, each hung on the next: none is hung elsewhere, the first
+/// is freed, the second is, the first is hung on the last, and the last on the first.
+#[test]
+fn largest_ranks() {
+    let deepest = |line: &str| ask(line).deepest;
+    assert_eq!(deepest("scene 0 0 0 00"), Some(0));
+    assert_eq!(deepest("scene 0 0 0 0a0080800080"), Some(2));
+    for refused in ["04000400", "04000200", "04", "-"] {
+        assert_eq!(deepest(&format!("scene 0 0 0 {refused}")), Some(0));
+    }
+    let chain = "1:0:0:0:2:0,1:0:0:0:3:0,1:0:0:0:0:0";
+    for (packet, expected) in [("00", 3), ("e0", 2), ("70", 2), ("c180", 2), ("3020", 0)] {
+        let line = format!("update 0 0 0 {chain} {packet}");
+        assert_eq!(deepest(&line), Some(expected), "{packet}");
+    }
+    assert_eq!(deepest("update 0 0 0 - -"), Some(0));
+    assert_eq!(deepest("validation 77 -"), Some(0));
+    let shapes = vec!["0:0:0:0:0:0"; 64].join(",");
+    assert_eq!(deepest(&format!("update 0 0 0 {shapes} -")), Some(0));
+    assert_eq!(deepest(&format!("validation 7 {shapes}")), Some(0));
+}
+
+#[test]
+fn kinds_without_a_largest_rank() {
+    for line in [
+        "position 0 0 0 1 0:0:0:0:0:0 00000000",
+        "metadata 0 0 0 40",
+        "name 257 27",
+        "show 00",
+        "fields 0 0 0 f@1 00",
+        "list 0 0 0:00 -",
+    ] {
+        assert_eq!(ask(line).deepest, None, "{line}");
+    }
 }
 
 #[test]
 fn names() {
     let line = ask("name 257 27").to_string();
-    assert_eq!(line, "name read 0 0 27 0 - ancillary.scene_graph.count");
+    assert_eq!(line, "name read 0 0 27 - 0 - ancillary.scene_graph.count");
     let line = ask("name 257 26").to_string();
-    assert_eq!(line, "name refused 26 0 0 0 - -");
+    assert_eq!(line, "name refused 26 0 0 - 0 - -");
     assert_eq!(verdict("name 258 26"), "refused 25 0 0");
 }
 
 #[test]
 fn shows() {
     let line = ask("show 00010000000600").to_string();
-    assert_eq!(line, "show read 0 0 23 0 - part 0 read 6 fields 1/");
+    assert_eq!(
+        line,
+        "show read 0 0 33 - 0 - part 0 read 6 fields 1/deepest 0/"
+    );
     let line = ask("show -").to_string();
-    assert_eq!(line, "show refused 24 0 16 0 - file refused 24/");
+    assert_eq!(line, "show refused 24 0 16 - 0 - file refused 24/");
     let long = "00".repeat(65_537);
     assert_eq!(verdict(&format!("show {long}")), "refused 23 0 16");
     for line in ["show", "show 0", "show 00 00", "show 0 0 0 00"] {

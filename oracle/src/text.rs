@@ -1,7 +1,7 @@
 //! Small pieces of the text lines: words, numbers, lists, hexadecimal bytes, cells of a table.
 use std::str::{FromStr, Split};
 
-/// What stands for an empty list.
+/// What stands for an empty list, and where there is no number.
 const NONE: &str = "-";
 
 const DIGITS: &[u8; 16] = b"0123456789abcdef";
@@ -28,6 +28,10 @@ impl<'a> Words<'a> {
 
 pub fn number<T: FromStr>(text: &str) -> Result<T, String> {
     text.parse().map_err(|_| format!("not a number: {text}"))
+}
+
+pub fn or_none(number: Option<usize>) -> String {
+    number.map_or(NONE.into(), |number| number.to_string())
 }
 
 pub fn flag(text: &str) -> Result<bool, String> {

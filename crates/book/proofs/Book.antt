@@ -5,11 +5,13 @@ use mathlib.Core.Bool.{Bool, true, false}
 use mathlib.Core.List.{List, []}
 use native.Mathlib.Omega.{arith}
 use lib.ListN.{length, take}
-use Rattle.rules.specs.declared.Answer.{Answer}
 use Rattle.rules.specs.Reading.{Result, read, ended}
-use Rattle.rules.specs.Answer.{value_or, input_of, Answered}
+use Rattle.rules.specs.Answer.{value_or, input_of}
 use Rattle.rules.proofs.Answers.{value_unread, value_of_read}
 use Rattle.position.specs.declared.PositionSyntax.{PositionSyntax}
+use Rattle.validation.specs.declared.GraphAnswer.{GraphAnswer}
+use Rattle.validation.specs.Validation.{GraphAnswered, TellsLargest}
+use Rattle.validation.proofs.Answers.{graph_is, reading_tells}
 use Rattle.scene.specs.declared.SceneAnswer.{SceneAnswer}
 use Rattle.scene.specs.Scene.{scene_reading, SceneAnswered}
 use Rattle.update.specs.Update.{update_reading}
@@ -56,6 +58,15 @@ accepted_ranked p s h =
 pub first_ranked : (p : Packet) → Ranked (book_first p)
 first_ranked p = scene_ranked p [] none_ranked
 
+-- ---- and the largest of them is told
+pub scene_tells : (p : Packet) → TellsLargest (scene_step p []).told.graph (book_first p)
+unfolding scene_step book_scene
+scene_tells p = reading_tells [] (book_scene p).result (shapes.scene_ranked (input p) p.offset)
+
+pub update_tells : (p : Packet) (s : List PositionSyntax) → TellsLargest (update_step p s).told.graph (update_step p s).left
+unfolding update_step book_reading
+update_tells p s = reading_tells s (book_reading p s).result (shapes.update_ranked (input p) p.offset (length s) s)
+
 -- ---- a scene declares at most 63 positions, and there are as many shapes after any packets as before
 pub first_many : (p : Packet) → length (book_first p) ≤ 63
 unfolding scene_step book_scene
@@ -94,26 +105,26 @@ update_told p s = refl
 -- ---- the parts of an answer
 module _ (p : Packet) {rec : Bool} {ws vs : List ℕ} where
   module _ {r : SceneAnswer} (y : SceneAnswered (book_scene p) rec ws r vs) where
-    pub scene_answer : r.answer ≡ (scene_step p []).told.answer
+    pub scene_answer : r.graph ≡ (scene_step p []).told.graph
     unfolding scene_step
-    scene_answer = y.answered.answer
+    scene_answer = graph_is y.answered
 
     pub scene_declares : take r.count r.shapes ≡ book_first p
     unfolding scene_step
-    scene_declares = y.answered.value
+    scene_declares = y.answered.answered.value
 
     pub scene_counts : r.count ≡ length (book_first p)
     unfolding scene_step
     scene_counts = y.count
 
-  module _ {s t : List PositionSyntax} {r : Answer} (y : Answered (book_reading p s) s rec ws r t vs) where
-    pub update_answer : r ≡ (update_step p s).told.answer
+  module _ {s t : List PositionSyntax} {r : GraphAnswer} (y : GraphAnswered (book_reading p s) s rec ws r t vs) where
+    pub update_answer : r ≡ (update_step p s).told.graph
     unfolding update_step
-    update_answer = y.answer
+    update_answer = graph_is y
 
     pub update_left : t ≡ (update_step p s).left
     unfolding update_step
-    update_left = y.value
+    update_left = y.answered.value
 
 -- ---- with 81,920 words recording changes no reading
 module _ (bs : List ℕ) (offset : ℕ) (ws vs : List ℕ) (room : 81920 ≤ length ws) where

@@ -7,14 +7,15 @@ use mathlib.Core.Bool.{Bool, true, false}
 use mathlib.Core.Logic.{◌↔◌}
 use lib.ListN.{length, take, drop}
 use lib.Seq.{take_at}
-use Rattle.rules.specs.declared.Answer.{Answer}
 use Rattle.rules.specs.Rule.{Rule}
 use Rattle.rules.specs.Reading.{Reading, reading}
 use Rattle.rules.specs.Words.{encoded}
-use Rattle.rules.specs.Answer.{answer_of, value_or, input_of, Answered}
+use Rattle.rules.specs.Answer.{value_or, input_of}
 use Rattle.rules.proofs.Words.{encoded_length}
 use Rattle.position.specs.declared.PositionSyntax.{PositionSyntax}
-use Rattle.validation.specs.Validation.{RefusedForParents}
+use Rattle.validation.specs.declared.GraphAnswer.{GraphAnswer}
+use Rattle.validation.specs.Validation.{RefusedForParents, graph_answer, GraphAnswered}
+use Rattle.validation.proofs.Answers.{graph_is}
 use Rattle.scene.specs.declared.SceneAnswer.{SceneAnswer}
 use Rattle.scene.specs.Scene.{scene_reading, SceneAnswered}
 use Rattle.update.specs.Update.{update_reading}
@@ -25,37 +26,37 @@ use Rattle.book.proofs.Shapes.{scene_refused, update_refused}
 use Rattle.book.proofs.Book.{update_is}
 
 -- the answer of a call is the reading's, with the words of its counted fields
-answer_given : {A : Type 0} (bs : List ℕ) (rec : Bool) (ws : List ℕ) (q : Rule A) {a v : A} {r : Answer} {vs : List ℕ} →
-    Answered (reading (input_of bs rec ws) q 0 0 0) a rec ws r v vs → given_by rec r vs ≡ given rec (reading (input_of bs rec ws) q 0 0 0)
+answer_given : (bs : List ℕ) (rec : Bool) (ws : List ℕ) (q : Rule (List PositionSyntax)) {a v : List PositionSyntax} {r : GraphAnswer} {vs : List ℕ} →
+    GraphAnswered (reading (input_of bs rec ws) q 0 0 0) a rec ws r v vs → given_by rec r vs ≡ given rec (reading (input_of bs rec ws) q 0 0 0)
 answer_given bs true ws q {vs = vs} m =
     let x = reading (input_of bs true ws) q 0 0 0 in
-    let front : vs ≡ encoded x.fields ++ drop (5 * length x.fields) ws = m.words ∙ words_front bs ws q 0 0 in
+    let front : vs ≡ encoded x.fields ++ drop (5 * length x.fields) ws = m.answered.words ∙ words_front bs ws q 0 0 in
     let counted : take (5 * length x.fields) vs ≡ encoded x.fields = rw front (take_at (encoded x.fields) _ _ (encoded_length x.fields)) in
-    rw m.answer (ap (λ (l : List ℕ). record { answer = answer_of x; words = l }) counted)
-answer_given bs false ws q m = ap (λ (r : Answer). record { answer = r; words = [] }) m.answer
+    rw (graph_is m) (ap (λ (l : List ℕ). record { graph = graph_answer x; words = l }) counted)
+answer_given bs false ws q m = ap (λ (r : GraphAnswer). record { graph = r; words = [] }) (graph_is m)
 
 module _ (bs : List ℕ) (offset : ℕ) (rec : Bool) (ws : List ℕ) where
   abbrev p : Packet
   p = packet_of bs offset rec ws
 
   module _ {r : SceneAnswer} {vs : List ℕ} (m : SceneAnswered (scene_reading (input_of bs rec ws) offset) rec ws r vs) where
-    pub scene_by_step : ByStep scene_step [] (record { fed = p; told = given_by rec r.answer vs }) (take r.count r.shapes)
+    pub scene_by_step : ByStep scene_step [] (record { fed = p; told = given_by rec r.graph vs }) (take r.count r.shapes)
     unfolding scene_step book_scene
-    scene_by_step = record { tells = answer_given bs rec ws _ m.answered; leaves = m.answered.value }
+    scene_by_step = record { tells = answer_given bs rec ws _ m.answered; leaves = m.answered.answered.value }
 
-    pub scene_for_parents : (next : List PositionSyntax) → SceneWouldGive p next → RefusedForParents r.answer.outcome ↔ (¬ Ranked next)
-    scene_for_parents next h = rw m.answered.answer (scene_refused (input p) offset next h)
+    pub scene_for_parents : (next : List PositionSyntax) → SceneWouldGive p next → RefusedForParents r.graph.answer.outcome ↔ (¬ Ranked next)
+    scene_for_parents next h = rw m.answered.answered.answer (scene_refused (input p) offset next h)
 
-  module _ (s : List PositionSyntax) (count : ℕ) {r : Answer} {t : List PositionSyntax} {vs : List ℕ}
-      (m : Answered (update_reading (input_of bs rec ws) offset count s) s rec ws r t vs) where
+  module _ (s : List PositionSyntax) (count : ℕ) {r : GraphAnswer} {t : List PositionSyntax} {vs : List ℕ}
+      (m : GraphAnswered (update_reading (input_of bs rec ws) offset count s) s rec ws r t vs) where
     pub update_by_step : count ≡ length s → ByStep update_step s (record { fed = p; told = given_by rec r vs }) t
     unfolding update_step
     update_by_step e =
         let same = update_is bs offset rec ws count s e in
         record {
           tells = answer_given bs rec ws _ m ∙ ap (given rec) same;
-          leaves = m.value ∙ ap (λ (x : Reading (List PositionSyntax)). value_or s x.result) same;
+          leaves = m.answered.value ∙ ap (λ (x : Reading (List PositionSyntax)). value_or s x.result) same;
         }
 
-    pub packet_for_parents : (next : List PositionSyntax) → PacketWouldGive p count s next → RefusedForParents r.outcome ↔ (¬ Ranked next)
-    packet_for_parents next h = rw m.answer (update_refused (input p) offset count s next h)
+    pub packet_for_parents : (next : List PositionSyntax) → PacketWouldGive p count s next → RefusedForParents r.answer.outcome ↔ (¬ Ranked next)
+    packet_for_parents next h = rw m.answered.answer (update_refused (input p) offset count s next h)

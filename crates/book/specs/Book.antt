@@ -1,13 +1,13 @@
 -- The book of demand 3. It is fed the arguments of calls, and nothing that the program keeps; its state is a list of shapes.
 use Rattle.std.specs.Prelude.{ℕ, ◌*◌, ◌≡◌, List, [], Bool, length, take}
-use Rattle.rules.specs.declared.Answer.{Answer}
 use Rattle.rules.specs.Rule.{pick}
 use Rattle.rules.specs.Reading.{Reading, Input, read, is_read}
 use Rattle.rules.specs.Words.{encoded}
-use Rattle.rules.specs.Answer.{answer_of, value_or, entry_reading}
+use Rattle.rules.specs.Answer.{value_or, entry_reading}
 use Rattle.position.specs.declared.PositionSyntax.{PositionSyntax}
 use Rattle.ranks.specs.Rank.{HaveRanks}
-use Rattle.validation.specs.Validation.{parents}
+use Rattle.validation.specs.declared.GraphAnswer.{GraphAnswer}
+use Rattle.validation.specs.Validation.{parents, graph_answer}
 use Rattle.scene.specs.Scene.{scene_fields, scene_reading}
 use Rattle.update.specs.Update.{update_fields, shapes_question, update_reading}
 use Rattle.book.specs.Step.{After, Step, book_told, book_state}
@@ -25,22 +25,22 @@ packet_of bs offset rec ws = record { bytes = bs; offset = offset; recording = r
 abbrev pub input : Packet → Input
 input p = record { bytes = p.bytes; recording = p.recording; room = p.room }
 
--- An answer as it is compared: whole, with the words of its counted fields when recording.
+-- An answer as it is compared: whole, the largest rank included, with the words of its counted fields when recording.
 pub record Given : Type 0 where
-  pub answer : Answer
+  pub graph : GraphAnswer
   pub words : List ℕ
 
 -- what the rules give
-abbrev pub given : {A : Type 0} → Bool → Reading A → Given
-given rec x = record { answer = answer_of x; words = pick rec (encoded x.fields) [] }
+abbrev pub given : Bool → Reading (List PositionSyntax) → Given
+given rec x = record { graph = graph_answer x; words = pick rec (encoded x.fields) [] }
 
 -- what a call gave, `ws` being the words that it was lent as it left them
-abbrev pub given_by : Bool → Answer → List ℕ → Given
-given_by rec r ws = record { answer = r; words = pick rec (take (5 * r.fields) ws) [] }
+abbrev pub given_by : Bool → GraphAnswer → List ℕ → Given
+given_by rec r ws = record { graph = r; words = pick rec (take (5 * r.answer.fields) ws) [] }
 
 -- The rules end in read: the call is accepted.
 abbrev pub is_accepted : Given → Bool
-is_accepted g = is_read g.answer.outcome
+is_accepted g = is_read g.graph.answer.outcome
 
 -- The step of a reading: if it ends in read, its shapes become the list; otherwise the list stays.
 abbrev pub step_of : Bool → Reading (List PositionSyntax) → List PositionSyntax → After (List PositionSyntax) Given

@@ -8,11 +8,12 @@ use prog.Routine.{Env}
 use borrow.Fn.World.{World}
 use lib.ListN.{length}
 use Rattle.position.specs.declared.PositionSyntax.{PositionSyntax}
+use Rattle.validation.specs.Validation.{TellsLargest}
 use Rattle.book.specs.Step as book
 use Rattle.book.specs.Step.{Ran, ByStep, all_fed}
 use Rattle.book.specs.Book.{is_accepted, scene_step, update_step}
 use Rattle.book.proofs.Steps.{booked}
-use Rattle.book.proofs.Book.{first_ranked, update_leaves, shapes_many, shapes_ranked}
+use Rattle.book.proofs.Book.{first_ranked, scene_tells, update_tells, update_leaves, shapes_many, shapes_ranked}
 use Rattle.book.proofs.Calls.{scene_by_step, update_by_step}
 use Rattle.runs.specs.Update.{all_of, count_of, used}
 use Rattle.runs.proofs.Update.{updates}
@@ -39,6 +40,14 @@ module _ (w : World) (γ : Env) where
   through_ran none = book.none
   through_ran {σ} (call k run r) = book.call (record { from = σ; next = k; run = run; call_is = refl; left_are = refl }) (through_ran r)
 
+  -- what each of them tells of the ranks
+  called_tells : (s : List PositionSyntax) (c : Call) (t : List PositionSyntax) → Called w γ s c t → TellsLargest c.told.graph t
+  called_tells s c t k = let by = called_by_step s c t k in rw (by.tells, by.leaves) (update_tells c.fed s)
+
+  next_tells : {m t : List PositionSyntax} {c : Call} {rest : List Call} → Ran (Called w γ) m (c ∷ rest) t →
+      (n : List PositionSyntax) × Called w γ m c n × Ran (Called w γ) n rest t × TellsLargest c.told.graph n
+  next_tells {m} (book.call {t = n} {c = c} k r) = (n, k, r, called_tells m c n k)
+
   pub list_claim : (scene : Call) (s t : List PositionSyntax) (σ : Memory) (cs : List Call) → Accepted w γ scene s σ → Ran (Called w γ) s cs t →
       ListClaim w γ scene s cs t
   list_claim scene s t σ cs a r =
@@ -49,6 +58,8 @@ module _ (w : World) (γ : Env) where
         first_are = first.leaves;
         ranked = rw all.state_is (shapes_ranked (all_fed cs) s (rw first.leaves (first_ranked scene.fed)));
         as_many = rw all.state_is (shapes_many (all_fed cs) s);
+        scene_tells = rw (first.tells, first.leaves) (scene_tells scene.fed);
+        each_tells = λ before rest c e. let at = all.states_are before (c ∷ rest) e in let next = next_tells at.2 in (at.0, next.0, at.1, next.1, next.2, next.3);
         booked = all;
       }
 

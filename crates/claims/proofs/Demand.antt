@@ -31,7 +31,7 @@ demand3 w γ has = record {
   lists = λ scene s t σ ρ cs a r. list_claim w γ scene s t σ cs a (through_ran w γ r);
   counts = λ scene s σ a.
       let scene_answered = a.run.answered in
-      scene_answered.count ∙ ap length (sym scene_answered.answered.value) ∙ ap length (sym a.declared);
+      scene_answered.count ∙ ap length (sym scene_answered.answered.answered.value) ∙ ap length (sym a.declared);
   scene_refusals = λ f p σ F run. scene_for_parents _ _ _ _ run.answered;
   packet_refusals = λ f p h σ F run. packet_for_parents _ p.offset _ _ (used f h (all_of f h)) (count_of f h) run.answered;
 }

@@ -75,8 +75,8 @@ module _ (w : World) (γ : Env) (has : HasCode γ) where
       call_is = refl;
       read =
           let same = ap (λ (q : Packet). outcome_of (book_scene q).result) fed in
-          let answer : run.answer.answer.outcome ≡ outcome_of (book_scene (packet_sent p)).result =
-          rw (run.answered.answered.answer, scene_is p.bytes.held p.offset p.recording p.words.held) in
+          let answer : run.answer.graph.answer.outcome ≡ outcome_of (book_scene (packet_sent p)).result =
+          rw (run.answered.answered.answered.answer, scene_is p.bytes.held p.offset p.recording p.words.held) in
           ap is_read (answer ∙ same ∙ scene_read);
       declared = refl;
       leaves = refl;

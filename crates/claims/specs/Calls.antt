@@ -1,5 +1,5 @@
 -- A scene and the calls of updates after it, one after another through one memory, and what is claimed of them.
-use Rattle.std.specs.Prelude.{ℕ, zero, suc, ◌<◌, ◌^◌, ◌≡◌, List, [], ◌∷◌, map, Bool, true, length, take}
+use Rattle.std.specs.Prelude.{ℕ, zero, suc, ◌<◌, ◌^◌, ◌≡◌, List, [], ◌∷◌, ◌++◌, map, Bool, true, length, take}
 use Rattle.std.specs.Int.{w8, w64}
 use base.Logic.{SProp}
 use prog.Memory.{Memory}
@@ -8,8 +8,9 @@ use prog.Wired.{Wired}
 use borrow.Fn.World.{World}
 use Rattle.rules.specs.Reading.{is_read}
 use Rattle.position.specs.declared.PositionSyntax.{PositionSyntax}
+use Rattle.validation.specs.Validation.{TellsLargest}
 use Rattle.book.specs.Step as book
-use Rattle.book.specs.Step.{Booked, all_fed}
+use Rattle.book.specs.Step.{Booked, Ran, all_fed}
 use Rattle.book.specs.Book.{Packet, packet_of, Given, given_by, is_accepted, scene_step, update_step, book_first, Ranked}
 use Rattle.owner.specs.Cells.{Slice, at_block}
 use Rattle.owner.specs.Machine.{Writes, AllBelow}
@@ -40,8 +41,8 @@ module _ (w : World) (γ : Env) where
     pub memory : Memory
     pub beside : SProp w.𝓤
     pub run : SceneRead w γ variant sent memory beside
-    pub call_is : c ≡ record { fed = packet_sent sent; told = given_by sent.recording run.answer.answer run.words }
-    pub read : is_read run.answer.answer.outcome ≡ true
+    pub call_is : c ≡ record { fed = packet_sent sent; told = given_by sent.recording run.answer.graph run.words }
+    pub read : is_read run.answer.graph.answer.outcome ≡ true
     pub declared : s ≡ take run.answer.count run.answer.shapes
     pub leaves : ρ ≡ run.memory
 
@@ -104,6 +105,11 @@ module _ (w : World) (γ : Env) where
     -- after the list every position has a rank, and there are as many as were declared
     pub ranked : Ranked t
     pub as_many : length t ≡ length s
+    -- The scene's answer has the largest rank of the shapes that it declared. So does that of each call of the list, of the shapes
+    -- that this very call left: those after the calls before it, changed by it if it was accepted. A refused one has 0.
+    pub scene_tells : TellsLargest scene.told.graph s
+    pub each_tells : (first rest : List Call) (c : Call) → cs ≡ first ++ (c ∷ rest) →
+        (m n : List PositionSyntax) × Ran Called s first m × Called m c n × Ran Called n rest t × TellsLargest c.told.graph n
     -- every answer and the shapes are the book's, and the accepted calls alone get the same answers and leave the same shapes
     pub booked : Booked update_step is_accepted Called s cs t
 

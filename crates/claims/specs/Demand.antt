@@ -60,6 +60,6 @@ module _ (w : World) (γ : Env) where
     -- A scene, or a packet on whatever shapes, otherwise read to its end is refused for its parents exactly if no ranks exist for
     -- the parents that it would give.
     pub scene_refusals : (x : Variant) (p : Sent) (σ : Memory) (F : Beside) (run : SceneRead w γ x p σ F) (next : List PositionSyntax) →
-        SceneWouldGive (packet_sent p) next → RefusedForParents run.answer.answer.outcome ↔ (¬ Ranked next)
+        SceneWouldGive (packet_sent p) next → RefusedForParents run.answer.graph.answer.outcome ↔ (¬ Ranked next)
     pub packet_refusals : (f : Form) (p : Sent) (h : Handed f) (σ : Memory) (F : Beside) (run : Updated w γ f p h σ F) (next : List PositionSyntax) →
-        PacketWouldGive (packet_sent p) (count_of f h) (used f h (all_of f h)) next → RefusedForParents run.answer.outcome ↔ (¬ Ranked next)
+        PacketWouldGive (packet_sent p) (count_of f h) (used f h (all_of f h)) next → RefusedForParents run.answer.answer.outcome ↔ (¬ Ranked next)

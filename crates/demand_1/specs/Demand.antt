@@ -5,10 +5,11 @@ use Rattle.rules.specs.declared.Answer.{Answer}
 use Rattle.rules.specs.declared.Outcome.{Outcome}
 use Rattle.rules.specs.declared.Outcome.TheVariants.{Read, Refused}
 use Rattle.rules.specs.Reading.{is_read}
-use Rattle.rules.specs.Answer.{outcome_number, answer_of, input_of, Answered}
+use Rattle.rules.specs.Answer.{outcome_number, input_of, Answered}
 use Rattle.position.specs.declared.PositionSyntax.{PositionSyntax}
 use Rattle.position_alone.specs.Entry.{position_reading}
-use Rattle.validation.specs.Validation.{RefusedForParents, validation_reading}
+use Rattle.validation.specs.declared.GraphAnswer.{GraphAnswer}
+use Rattle.validation.specs.Validation.{RefusedForParents, validation_reading, graph_answer, GraphAnswered, LargestTold}
 use Rattle.scene.specs.declared.SceneAnswer.{SceneAnswer}
 use Rattle.scene.specs.Scene.{defaults, scene_reading, SceneAnswered}
 use Rattle.update.specs.declared.UpdateAnswer.{UpdateAnswer}
@@ -17,8 +18,9 @@ use Rattle.metadata.specs.Entry.{metadata_reading}
 use Rattle.text.specs.declared.TextAnswer.{TextAnswer}
 use Rattle.names.specs.NameAnswer.{name_question, NameAnswered}
 use Rattle.exported.specs.declared.GatewayAnswer.{GatewayAnswer}
+use Rattle.exported.specs.declared.GatewayGraphAnswer.{GatewayGraphAnswer}
 use Rattle.gateway.specs.declared.GatewayScene.{GatewayScene}
-use Rattle.exported.specs.Exported.{outcome_code, exported, Exported}
+use Rattle.exported.specs.Exported.{outcome_code, exported_graph, Exported, GraphExported}
 use Rattle.gateway.specs.Exported.{SceneExported, NameExported}
 use Rattle.known_names.specs.Known.{Explained}
 use Rattle.show_header.specs.Header.{part_of}
@@ -42,18 +44,26 @@ pub record Kept {A : Type 0} (bs : List ℕ) (rec : Bool) (ws : List ℕ) (came 
   pub as_many : length vs ≡ length ws
   pub off : rec ≡ false → vs ≡ ws
 
--- A scene, which gives its shapes: unless it was read none are counted and all 63 are the default. Those beyond the count always are.
-pub record SceneKept (bs : List ℕ) (rec : Bool) (ws : List ℕ) (count : ℕ) (shapes : List PositionSyntax) (vs : List ℕ) (o : Outcome) (position counted : ℕ) : Type 0 where
+-- A scene, which gives its shapes, and the largest rank of them: unless it was read none are counted and all 63 are the default. Those
+-- beyond the count always are.
+pub record SceneKept (bs : List ℕ) (rec : Bool) (ws : List ℕ) (count : ℕ) (shapes : List PositionSyntax) (vs : List ℕ) (o : Outcome) (position counted deepest : ℕ) : Type 0 where
   pub kept : Kept {A = ℕ × List PositionSyntax} bs rec ws (0, defaults) (count, shapes) vs o position counted
   pub beyond : KeptFrom count defaults shapes
+  pub largest : LargestTold o deepest (take count shapes)
 
--- An update by value, of the first `count` shapes.
-pub record UpdateKept (bs : List ℕ) (rec : Bool) (ws : List ℕ) (count : ℕ) (came left : List PositionSyntax) (vs : List ℕ) (o : Outcome) (position counted : ℕ) : Type 0 where
+-- An update of all shapes, with their largest rank, and one by value, of the first `count`.
+pub record LentKept (bs : List ℕ) (rec : Bool) (ws : List ℕ) (came left : List PositionSyntax) (vs : List ℕ) (o : Outcome) (position counted deepest : ℕ) : Type 0 where
+  pub kept : Kept bs rec ws came left vs o position counted
+  pub largest : LargestTold o deepest left
+
+pub record UpdateKept (bs : List ℕ) (rec : Bool) (ws : List ℕ) (count : ℕ) (came left : List PositionSyntax) (vs : List ℕ) (o : Outcome) (position counted deepest : ℕ) : Type 0 where
   pub kept : Kept bs rec ws came left vs o position counted
   pub beyond : KeptFrom count came left
+  pub largest : LargestTold o deepest (take count left)
 
--- Validation alone, of `count` shapes: it gives the position back that it was handed, with no fields.
-pub record Validated (count at : ℕ) (o : Outcome) (position counted : ℕ) : Type 0 where
+-- Validation alone, of `count` shapes: it gives the position back that it was handed, and their largest rank, with no fields.
+pub record Validated (count : ℕ) (shapes : List PositionSyntax) (at : ℕ) (o : Outcome) (position counted deepest : ℕ) : Type 0 where
+  pub largest : LargestTold o deepest shapes
   pub none : counted ≡ 0
   pub back : count ≤ 63 → (position ≡ at) × ((o ≡ Read) ⊎ RefusedForParents o)
   pub too_many : 63 < count → (position ≡ 0) × (o ≡ Refused 2)
@@ -70,19 +80,28 @@ pub record NameKept (came left : List ℕ) (o : Outcome) (position put : ℕ) : 
   pub kept : TextKept 25 26 came left o position put
   pub unread : (n : ℕ) → o ≡ Refused n → left ≡ came
 
--- P of the outcome, the position and the fields of an answer; ..
+-- P of the outcome, the position and the fields of an answer; with the largest rank; ..
 abbrev pub Said : (Outcome → ℕ → ℕ → Type 0) → Answer → Type 0
 Said P a = P a.outcome a.position a.fields
+
+abbrev pub SaidOfGraph : (Outcome → ℕ → ℕ → ℕ → Type 0) → GraphAnswer → Type 0
+SaidOfGraph P g = P g.answer.outcome g.answer.position g.answer.fields g.deepest
 
 abbrev pub SaidOfText : (Outcome → ℕ → ℕ → Type 0) → TextAnswer → Type 0
 SaidOfText P a = P a.outcome a.position a.length
 
 -- .. and of one that crosses to C and Rust: of the outcome that its two numbers tell
-pub record Crossed (P : Outcome → ℕ → ℕ → Type 0) (r : GatewayAnswer) : Type 0 where
+pub record Crossed (P : Outcome → Type 0) (code number : ℕ) : Type 0 where
   pub outcome : Outcome
-  pub code : r.outcome ≡ outcome_code outcome
-  pub number : r.number ≡ outcome_number outcome
-  pub said : P outcome r.position r.counted
+  pub code_is : code ≡ outcome_code outcome
+  pub number_is : number ≡ outcome_number outcome
+  pub said : P outcome
+
+abbrev pub AnswerCrossed : (Outcome → ℕ → ℕ → Type 0) → GatewayAnswer → Type 0
+AnswerCrossed P r = Crossed (λ o. P o r.position r.counted) r.outcome r.number
+
+abbrev pub GraphCrossed : (Outcome → ℕ → ℕ → ℕ → Type 0) → GatewayGraphAnswer → Type 0
+GraphCrossed P r = Crossed (λ o. P o r.position r.counted r.deepest) r.outcome r.number
 
 -- A part of a show, which is lent words alone. One that is not there, or not read for want of a scene, leaves them.
 abbrev pub PartKept : List ℕ → List ℕ → Result Answer NotRead → List ℕ → Type 0
@@ -94,14 +113,15 @@ PartKept part ws (Err e) vs = vs ≡ ws
 pub record Demand1 : Type 0 where
   -- `scene::read_scene`
   pub scene : (bs : List ℕ) (offset : ℕ) (rec : Bool) (ws : List ℕ) (r : SceneAnswer) (vs : List ℕ) →
-      SceneAnswered (scene_reading (input_of bs rec ws) offset) rec ws r vs → Said (SceneKept bs rec ws r.count r.shapes vs) r.answer
+      SceneAnswered (scene_reading (input_of bs rec ws) offset) rec ws r vs → SaidOfGraph (SceneKept bs rec ws r.count r.shapes vs) r.graph
   -- `update::graph_update`
   pub update : (bs : List ℕ) (offset : ℕ) (rec : Bool) (ws : List ℕ) (count : ℕ) (shapes : List PositionSyntax) (r : UpdateAnswer) (vs : List ℕ) →
       UpdateAnswered (update_reading (input_of bs rec ws) offset count (take count shapes)) count shapes rec ws r vs →
-      Said (UpdateKept bs rec ws count shapes r.shapes vs) r.answer
+      SaidOfGraph (UpdateKept bs rec ws count shapes r.shapes vs) r.graph
   -- `lent::graph_update`
-  pub lent_update : (bs : List ℕ) (offset : ℕ) (rec : Bool) (ws : List ℕ) (shapes next : List PositionSyntax) (r : Answer) (vs : List ℕ) →
-      Answered (update_reading (input_of bs rec ws) offset (length shapes) shapes) shapes rec ws r next vs → Said (Kept bs rec ws shapes next vs) r
+  pub lent_update : (bs : List ℕ) (offset : ℕ) (rec : Bool) (ws : List ℕ) (shapes next : List PositionSyntax) (r : GraphAnswer) (vs : List ℕ) →
+      GraphAnswered (update_reading (input_of bs rec ws) offset (length shapes) shapes) shapes rec ws r next vs →
+      SaidOfGraph (LentKept bs rec ws shapes next vs) r
   -- `position_alone::read_position` and `lent::read_position`
   pub position : (bs : List ℕ) (offset : ℕ) (rec : Bool) (ws : List ℕ) (shape next : PositionSyntax) (full : Bool) (r : Answer) (vs : List ℕ) →
       Answered (position_reading (input_of bs rec ws) offset shape full) shape rec ws r next vs → Said (Kept bs rec ws shape next vs) r
@@ -109,24 +129,25 @@ pub record Demand1 : Type 0 where
   pub metadata : (bs : List ℕ) (offset : ℕ) (rec : Bool) (ws : List ℕ) (r : Answer) (vs : List ℕ) →
       Answered (metadata_reading (input_of bs rec ws) offset) tt rec ws r tt vs → Said (Kept {A = Unit {0}} bs rec ws tt tt vs) r
   -- `validation::validate_graph`, of the shapes `take count shapes`, and `lent::validate_graph`, of as many as are lent
-  pub validation : (count : ℕ) (shapes : List PositionSyntax) (at : ℕ) (r : Answer) →
-      r ≡ answer_of (validation_reading count shapes at) → Said (Validated count at) r
+  pub validation : (count : ℕ) (shapes : List PositionSyntax) (at : ℕ) (r : GraphAnswer) →
+      r ≡ graph_answer (validation_reading count shapes at) → SaidOfGraph (Validated count shapes at) r
   -- `names::name_text`
   pub name : (word : ℕ) (bytes : List ℕ) (r : TextAnswer) (after : List ℕ) →
       NameAnswered word (name_question word (length bytes)) bytes r after → SaidOfText (NameKept bytes after) r
   -- `gateway_scene`, `gateway_update`, `gateway_position`, `gateway_metadata`, `gateway_validation` and `gateway_name`
   pub exported_scene : (bs : List ℕ) (offset : ℕ) (rec : Bool) (ws : List ℕ) (r : GatewayScene) (vs : List ℕ) →
-      SceneExported (scene_reading (input_of bs rec ws) offset) rec ws r vs → Crossed (SceneKept bs rec ws r.count r.shapes vs) r.answer
-  pub exported_update : (bs : List ℕ) (offset : ℕ) (rec : Bool) (ws : List ℕ) (shapes next : List PositionSyntax) (r : GatewayAnswer) (vs : List ℕ) →
-      Exported (update_reading (input_of bs rec ws) offset (length shapes) shapes) shapes rec ws r next vs → Crossed (Kept bs rec ws shapes next vs) r
+      SceneExported (scene_reading (input_of bs rec ws) offset) rec ws r vs → GraphCrossed (SceneKept bs rec ws r.count r.shapes vs) r.answer
+  pub exported_update : (bs : List ℕ) (offset : ℕ) (rec : Bool) (ws : List ℕ) (shapes next : List PositionSyntax) (r : GatewayGraphAnswer) (vs : List ℕ) →
+      GraphExported (update_reading (input_of bs rec ws) offset (length shapes) shapes) shapes rec ws r next vs →
+      GraphCrossed (LentKept bs rec ws shapes next vs) r
   pub exported_position : (bs : List ℕ) (offset : ℕ) (rec : Bool) (ws : List ℕ) (shape next : PositionSyntax) (full : Bool) (r : GatewayAnswer) (vs : List ℕ) →
-      Exported (position_reading (input_of bs rec ws) offset shape full) shape rec ws r next vs → Crossed (Kept bs rec ws shape next vs) r
+      Exported (position_reading (input_of bs rec ws) offset shape full) shape rec ws r next vs → AnswerCrossed (Kept bs rec ws shape next vs) r
   pub exported_metadata : (bs : List ℕ) (offset : ℕ) (rec : Bool) (ws : List ℕ) (r : GatewayAnswer) (vs : List ℕ) →
-      Exported (metadata_reading (input_of bs rec ws) offset) tt rec ws r tt vs → Crossed (Kept {A = Unit {0}} bs rec ws tt tt vs) r
-  pub exported_validation : (shapes : List PositionSyntax) (at : ℕ) (r : GatewayAnswer) →
-      r ≡ exported (answer_of (validation_reading (length shapes) shapes at)) → Crossed (Validated (length shapes) at) r
+      Exported (metadata_reading (input_of bs rec ws) offset) tt rec ws r tt vs → AnswerCrossed (Kept {A = Unit {0}} bs rec ws tt tt vs) r
+  pub exported_validation : (shapes : List PositionSyntax) (at : ℕ) (r : GatewayGraphAnswer) →
+      r ≡ exported_graph (graph_answer (validation_reading (length shapes) shapes at)) → GraphCrossed (Validated (length shapes) shapes at) r
   pub exported_name : (word : ℕ) (bytes : List ℕ) (r : GatewayAnswer) (after : List ℕ) →
-      NameExported word (name_question word (length bytes)) bytes r after → Crossed (NameKept bytes after) r
+      NameExported word (name_question word (length bytes)) bytes r after → AnswerCrossed (NameKept bytes after) r
   -- `part_fields::read_part`: the position is one of the part
   pub part : (file : List ℕ) (k offset : ℕ) (ws : List ℕ) (r : Result Answer NotRead) (vs : List ℕ) →
       PartAnswered (part_listed file k (part_from file k offset ws)) ws r vs → PartKept (part_of file k) ws r vs

@@ -133,6 +133,7 @@ rows =
           ∷ "part 3 read 13 fields 8"
           ∷ "position 1 parent 2 rank 2"
           ∷ "position 2 parent 0 rank 1"
+          ∷ "deepest 2"
           ∷ []);
     } ∷
     -- its second part, listed; and its fourth part, if the file has lost its last byte

@@ -3,9 +3,10 @@
 
 ghost use Rattle.std.specs.Prelude.{◌≡◌};
 ghost use Rattle.rules.specs.Answer.{outcome_number};
-ghost use Rattle.exported.specs.Exported.{outcome_code, gateway_answer, exported};
+ghost use Rattle.exported.specs.Exported.{outcome_code, gateway_answer, exported, exported_graph};
 
 use rules::{Answer, Outcome};
+use validation::GraphAnswer;
 
 // An answer: the outcome is 0 if read, 1 if refused and 2 if stopped, and the number 0 if read. Counted are the fields of a
 // reading, or the bytes of a name's text.
@@ -16,6 +17,17 @@ pub struct GatewayAnswer {
     pub number: u64,
     pub position: usize,
     pub counted: usize,
+}
+
+// An answer with the largest rank of the shapes, 0 unless they were read.
+#[repr(C)]
+#[derive(Clone, Copy)]
+pub struct GatewayGraphAnswer {
+    pub outcome: u64,
+    pub number: u64,
+    pub position: usize,
+    pub counted: usize,
+    pub deepest: usize,
 }
 
 // The outcome as a number, and document 01's number with it.
@@ -58,4 +70,17 @@ pub fn exported(a: Answer) -> GatewayAnswer
 {
     let outcome = a.outcome;
     gateway_answer(outcome, a.position, a.fields)
+}
+
+pub fn exported_graph(g: GraphAnswer) -> GatewayGraphAnswer
+    ensures { result ≡ exported_graph g }
+{
+    let a = exported(g.answer);
+    GatewayGraphAnswer {
+        outcome: a.outcome,
+        number: a.number,
+        position: a.position,
+        counted: a.counted,
+        deepest: g.deepest,
+    }
 }

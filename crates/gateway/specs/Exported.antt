@@ -7,13 +7,13 @@ use Rattle.scene.specs.Scene.{SceneAnswered}
 use Rattle.text.specs.declared.TextAnswer.{TextAnswer}
 use Rattle.names.specs.NameAnswer.{NameAnswered}
 use Rattle.exported.specs.declared.GatewayAnswer.{GatewayAnswer}
-use Rattle.exported.specs.Exported.{gateway_answer, exported}
+use Rattle.exported.specs.Exported.{gateway_answer, exported_graph}
 use Rattle.gateway.specs.declared.GatewayScene.{GatewayScene}
 
 pub record SceneExported (x : Reading (List PositionSyntax)) (rec : Bool) (ws : List ℕ) (r : GatewayScene) (vs : List ℕ) : Type 0 where
   pub scene : SceneAnswer
   pub answered : SceneAnswered x rec ws scene vs
-  pub same : r ≡ record { answer = exported scene.answer; count = scene.count; shapes = scene.shapes }
+  pub same : r ≡ record { answer = exported_graph scene.graph; count = scene.count; shapes = scene.shapes }
 
 pub record NameExported (w number : ℕ) (bytes : List ℕ) (r : GatewayAnswer) (after : List ℕ) : Type 0 where
   pub answer : TextAnswer

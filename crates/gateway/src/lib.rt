@@ -3,24 +3,24 @@
 #![tactic(auto)]
 
 ghost use Rattle.std.specs.Prelude.{◌≡◌, length};
-ghost use Rattle.rules.specs.Answer.{input_of, answer_of};
+ghost use Rattle.rules.specs.Answer.{input_of};
 ghost use Rattle.position_alone.specs.Entry.{position_reading};
-ghost use Rattle.validation.specs.Validation.{validation_reading};
+ghost use Rattle.validation.specs.Validation.{validation_reading, graph_answer};
 ghost use Rattle.scene.specs.Scene.{scene_reading};
 ghost use Rattle.update.specs.Update.{update_reading};
 ghost use Rattle.metadata.specs.Entry.{metadata_reading};
 ghost use Rattle.names.specs.NameAnswer.{name_question};
-ghost use Rattle.exported.specs.Exported.{exported, Exported};
+ghost use Rattle.exported.specs.Exported.{exported_graph, Exported, GraphExported};
 ghost use Rattle.gateway.specs.Exported.{SceneExported, NameExported};
 
-use exported::GatewayAnswer;
+use exported::{GatewayAnswer, GatewayGraphAnswer};
 use position::PositionSyntax;
 
 // A scene: its answer, the number of its positions and their shapes.
 #[repr(C)]
 #[derive(Clone, Copy)]
 pub struct GatewayScene {
-    pub answer: GatewayAnswer,
+    pub answer: GatewayGraphAnswer,
     pub count: usize,
     pub shapes: [PositionSyntax; 63],
 }
@@ -35,7 +35,7 @@ pub fn gateway_scene(
     ensures { SceneExported (scene_reading (input_of bytes.now recording words.old) offset) recording words.old result words.new }
 {
     let a = scene::read_scene(bytes, offset, recording, words);
-    let answer = exported::exported(a.answer);
+    let answer = exported::exported_graph(a.graph);
     let shapes = a.shapes;
     GatewayScene {
         answer,
@@ -51,13 +51,13 @@ pub fn gateway_update(
     recording: bool,
     words: &mut [u64],
     shapes: &mut [PositionSyntax],
-) -> GatewayAnswer
-    ensures { Exported
+) -> GatewayGraphAnswer
+    ensures { GraphExported
         (update_reading (input_of bytes.now recording words.old) offset (length shapes.old) shapes.old)
         shapes.old recording words.old result shapes.new words.new }
 {
     let a = lent::graph_update(bytes, offset, recording, &mut words[..], &mut shapes[..]);
-    exported::exported(a)
+    exported::exported_graph(a)
 }
 
 // `lent::read_position`
@@ -78,11 +78,11 @@ pub fn gateway_position(
 }
 
 // `lent::validate_graph`
-pub fn gateway_validation(shapes: &[PositionSyntax], at: usize) -> GatewayAnswer
-    ensures { result ≡ exported (answer_of (validation_reading (length shapes.now) shapes.now at)) }
+pub fn gateway_validation(shapes: &[PositionSyntax], at: usize) -> GatewayGraphAnswer
+    ensures { result ≡ exported_graph (graph_answer (validation_reading (length shapes.now) shapes.now at)) }
 {
     let a = lent::validate_graph(&shapes[..], at);
-    exported::exported(a)
+    exported::exported_graph(a)
 }
 
 // `metadata::read_metadata`

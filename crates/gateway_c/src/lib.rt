@@ -3,17 +3,17 @@
 #![tactic(auto)]
 
 ghost use Rattle.std.specs.Prelude.{◌≡◌, length};
-ghost use Rattle.rules.specs.Answer.{input_of, answer_of};
+ghost use Rattle.rules.specs.Answer.{input_of};
 ghost use Rattle.position_alone.specs.Entry.{position_reading};
-ghost use Rattle.validation.specs.Validation.{validation_reading};
+ghost use Rattle.validation.specs.Validation.{validation_reading, graph_answer};
 ghost use Rattle.scene.specs.Scene.{scene_reading};
 ghost use Rattle.update.specs.Update.{update_reading};
 ghost use Rattle.metadata.specs.Entry.{metadata_reading};
 ghost use Rattle.names.specs.NameAnswer.{name_question};
-ghost use Rattle.exported.specs.Exported.{exported, Exported};
+ghost use Rattle.exported.specs.Exported.{exported_graph, Exported, GraphExported};
 ghost use Rattle.gateway.specs.Exported.{SceneExported, NameExported};
 
-use exported::GatewayAnswer;
+use exported::{GatewayAnswer, GatewayGraphAnswer};
 use gateway::GatewayScene;
 use position::PositionSyntax;
 
@@ -38,8 +38,8 @@ pub extern "C" fn gateway_update(
     recording: bool,
     words: &mut [u64],
     shapes: &mut [PositionSyntax],
-) -> GatewayAnswer
-    ensures { Exported
+) -> GatewayGraphAnswer
+    ensures { GraphExported
         (update_reading (input_of bytes.now recording words.old) offset (length shapes.old) shapes.old)
         shapes.old recording words.old result shapes.new words.new }
 {
@@ -65,8 +65,8 @@ pub extern "C" fn gateway_position(
 
 // `gateway::gateway_validation`
 #[unsafe(no_mangle)]
-pub extern "C" fn gateway_validation(shapes: &[PositionSyntax], at: usize) -> GatewayAnswer
-    ensures { result ≡ exported (answer_of (validation_reading (length shapes.now) shapes.now at)) }
+pub extern "C" fn gateway_validation(shapes: &[PositionSyntax], at: usize) -> GatewayGraphAnswer
+    ensures { result ≡ exported_graph (graph_answer (validation_reading (length shapes.now) shapes.now at)) }
 {
     gateway::gateway_validation(shapes, at)
 }

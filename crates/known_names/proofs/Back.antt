@@ -72,12 +72,12 @@ recorded_known bs ws own offset r {vs = vs} all answered n h =
 
 -- so of each call that a user makes, by what it promises
 module _ (bs ws : List ℕ) (offset : ℕ) {vs : List ℕ} where
-  pub scene_recorded : {r : SceneAnswer} → SceneAnswered (scene_reading (input_of bs true ws) offset) true ws r vs → RecordedKnown r.answer vs
-  scene_recorded p = recorded_known bs ws _ offset _ (scene_known _ offset) p.answered
+  pub scene_recorded : {r : SceneAnswer} → SceneAnswered (scene_reading (input_of bs true ws) offset) true ws r vs → RecordedKnown r.graph.answer vs
+  scene_recorded p = recorded_known bs ws _ offset _ (scene_known _ offset) p.answered.answered
 
   pub update_recorded : (count : ℕ) (shapes : List PositionSyntax) {r : UpdateAnswer} →
-      UpdateAnswered (update_reading (input_of bs true ws) offset count (take count shapes)) count shapes true ws r vs → RecordedKnown r.answer vs
-  update_recorded count shapes p = recorded_known bs ws _ offset _ (update_known _ offset count (take count shapes) (omega (arith, length-take count shapes))) p.answered
+      UpdateAnswered (update_reading (input_of bs true ws) offset count (take count shapes)) count shapes true ws r vs → RecordedKnown r.graph.answer vs
+  update_recorded count shapes p = recorded_known bs ws _ offset _ (update_known _ offset count (take count shapes) (omega (arith, length-take count shapes))) p.answered.answered
 
   pub position_recorded : (shape : PositionSyntax) (full : Bool) {to : PositionSyntax} {answer : Answer} →
       Answered (position_reading (input_of bs true ws) offset shape full) shape true ws answer to vs → RecordedKnown answer vs

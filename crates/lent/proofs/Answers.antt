@@ -9,10 +9,12 @@ use lib.Dec.{leb}
 use lib.ListN.{length, take}
 use Rattle.rules.specs.declared.Answer.{Answer}
 use Rattle.rules.specs.Reading.{Input, is_read}
-use Rattle.rules.specs.Answer.{outcome_of, Answered}
+use Rattle.rules.specs.Answer.{outcome_of}
 use Rattle.rules.proofs.Laws.{never}
 use Rattle.rules.proofs.Answers.{value_unread, value_of_read, entry_any, entry_unread}
 use Rattle.position.specs.declared.PositionSyntax.{PositionSyntax}
+use Rattle.validation.specs.declared.GraphAnswer.{GraphAnswer}
+use Rattle.validation.specs.Validation.{GraphAnswered}
 use Rattle.update.specs.Update.{graph_update, update_reading, UpdateGiven}
 
 -- `array` is a copy of the lent shapes, if they are at most 63
@@ -36,18 +38,23 @@ module _ (shapes array : List PositionSyntax) (copy : length shapes ≤ 63 → t
         (λ e. rw e (entry_any i 2 offset (graph_update (take count array)) (λ z. omega arith) (graph_update shapes)))
 
     -- an update of the array: `b` is whether it was read
-    module _ {rec : Bool} {ws vs : List ℕ} {a : Answer} {after : List PositionSyntax} (m : UpdateGiven (update_reading i offset count (take count array)) count array rec ws a after vs) {b : Bool} (t : b ≡ is_read a.outcome) where
-      given : Answered (update_reading i offset count shapes) (take count after) rec ws a (take count after) vs
+    module _ {rec : Bool} {ws vs : List ℕ} {a : GraphAnswer} {after : List PositionSyntax} (m : UpdateGiven (update_reading i offset count (take count array)) count array rec ws a after vs) {b : Bool} (t : b ≡ is_read a.answer.outcome) where
+      given : GraphAnswered (update_reading i offset count shapes) (take count after) rec ws a (take count after) vs
       given = rw same_reading at m.answered
 
       told : b ≡ is_read (outcome_of (update_reading i offset count shapes).result)
-      told = t ∙ ap (λ (r : Answer). is_read r.outcome) given.answer
+      told = t ∙ ap (λ (r : Answer). is_read r.outcome) given.answered.answer
 
-      pub update_read : {u : List PositionSyntax} → b ≡ true → u ≡ take count after → Answered (update_reading i offset count shapes) shapes rec ws a u vs
-      update_read h p = record { answer = given.answer; value = p ∙ given.value ∙ value_of_read (take count after) shapes _ (sym told ∙ h); words = given.words }
+      pub update_read : {u : List PositionSyntax} → b ≡ true → u ≡ take count after → GraphAnswered (update_reading i offset count shapes) shapes rec ws a u vs
+      update_read h p =
+          let read = given.answered in
+          let value = p ∙ read.value ∙ value_of_read (take count after) shapes _ (sym told ∙ h) in
+          record { answered = record { answer = read.answer; value = value; words = read.words }; deepest = given.deepest }
 
-      pub update_ended : b ≡ false → Answered (update_reading i offset count shapes) shapes rec ws a shapes vs
-      update_ended h = record { answer = given.answer; value = sym (value_unread shapes _ (sym told ∙ h)); words = given.words }
+      pub update_ended : b ≡ false → GraphAnswered (update_reading i offset count shapes) shapes rec ws a shapes vs
+      update_ended h =
+          let read = given.answered in
+          record { answered = record { answer = read.answer; value = sym (value_unread shapes _ (sym told ∙ h)); words = read.words }; deepest = given.deepest }
 
       -- one that was read has at most 63 shapes
       pub few : b ≡ true → length shapes ≤ 63

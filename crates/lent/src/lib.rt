@@ -2,19 +2,20 @@
 //
 // A reading can be refused at its last bit, and for its parents after that, when all shapes are read. So an update is read into
 // a copy, and the lent shapes are written once it is accepted: until then no part of it can be seen in them. Each call promises
-// what the reading by value does (`Answered`), with what it leaves in the lent shapes as its value: those of the rule if it was
-// read, and otherwise, in every place, what was there before.
+// what the reading by value does (`Answered`, `GraphAnswered`), with what it leaves in the lent shapes as its value: those of the
+// rule if it was read, and otherwise, in every place, what was there before.
 #![tactic(auto)]
 
 ghost use Rattle.std.specs.Prelude.{◌≡◌, ◌≤◌, length, take};
-ghost use Rattle.rules.specs.Answer.{input_of, answer_of, Answered};
+ghost use Rattle.rules.specs.Answer.{input_of, Answered};
 ghost use Rattle.position_alone.specs.Entry.{position_reading};
-ghost use Rattle.validation.specs.Validation.{validation_reading};
+ghost use Rattle.validation.specs.Validation.{validation_reading, graph_answer, GraphAnswered};
 ghost use Rattle.update.specs.Update.{update_reading};
 
 use parser::Parser;
 use position::PositionSyntax;
 use rules::Answer;
+use validation::GraphAnswer;
 
 // At most 63 lent shapes as an array, with the default after the last. More are not copied: they are refused whatever they are.
 fn array_of(shapes: &[PositionSyntax]) -> [PositionSyntax; 63]
@@ -65,23 +66,23 @@ pub fn graph_update(
     recording: bool,
     words: &mut [u64],
     shapes: &mut [PositionSyntax],
-) -> Answer
-    ensures { Answered
+) -> GraphAnswer
+    ensures { GraphAnswered
         (update_reading (input_of bytes.now recording words.old) offset (length shapes.old) shapes.old)
         shapes.old recording words.old result shapes.new words.new }
 {
     let mut next = array_of(shapes);
     let count = shapes.len();
-    let answer = update::undecided::read_update(bytes, offset, recording, words, &mut next, count);
-    if answer.outcome.is_read() {
+    let graph = update::undecided::read_update(bytes, offset, recording, words, &mut next, count);
+    if graph.answer.outcome.is_read() {
         write_back(shapes, &next);
     }
-    answer
+    graph
 }
 
 // `validation::validate`: nothing is changed.
-pub fn validate_graph(shapes: &[PositionSyntax], at: usize) -> Answer
-    ensures { result ≡ answer_of (validation_reading (length shapes.now) shapes.now at) }
+pub fn validate_graph(shapes: &[PositionSyntax], at: usize) -> GraphAnswer
+    ensures { result ≡ graph_answer (validation_reading (length shapes.now) shapes.now at) }
 {
     validation::validate(shapes, at)
 }

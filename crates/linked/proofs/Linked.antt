@@ -144,18 +144,20 @@ linked =
     let position_alone_read_position = in_position_alone.read_position W refl
     (parser_answer & parser_entry & parser_new & position_syntax_is_shaped & position_position & tt) in
     let ranks_judge = in_ranks.judge W refl tt in
+    let ranks_larger = in_ranks.larger W refl tt in
     let ranks_rank = in_ranks.rank W refl tt in
-    let validation_below = ranks_judge & rules_outcome_from_result & tt in
+    let validation_below = parser_answer & ranks_judge & rules_outcome_from_reason & tt in
+    let validation_graph_ended = in_validation.graph_ended W refl validation_below in
     let validation_parents_of = in_validation.parents_of W refl validation_below in
     let validation_validate = in_validation.validate W refl validation_below in
     let validation_validated = in_validation.validated W refl validation_below in
     let positions_positions = in_positions.positions W refl (parser_flag & position_position & tt) in
     let scene_read_scene = in_scene.read_scene W refl
-    (parser_answer & parser_drc_count & parser_entry & parser_new & position_syntax_default & positions_positions &
+    (parser_drc_count & parser_entry & parser_new & position_syntax_default & positions_positions & validation_graph_ended &
     validation_validated & tt) in
     let update_below =
-    parser_answer & parser_entry & parser_new & position_syntax_is_shaped & positions_positions & rules_outcome_is_read &
-    validation_validated & tt in
+    parser_entry & parser_new & position_syntax_is_shaped & positions_positions & rules_outcome_is_read &
+    validation_graph_ended & validation_validated & tt in
     let update_graph_update = in_update.graph_update W refl update_below in
     let update_undecided_read_update = in_update.undecided_read_update W refl update_below in
     let lent_graph_update = in_lent.graph_update W refl
@@ -265,9 +267,9 @@ linked =
     let outcome_lines_outcome_line = in_outcome_lines.outcome_line W refl
     (numbers_put_meaning & text_writer_length & text_writer_new & text_writer_put & text_writer_put_byte & text_writer_put_number &
     text_writer_put_two & tt) in
-    let exported_exported = in_exported.exported W refl tt in
-    let gateway_scene = in_gateway.gateway_scene W refl exported_exported scene_read_scene in
-    let gateway_update = in_gateway.gateway_update W refl exported_exported lent_graph_update in
+    let exported_exported_graph = in_exported.exported_graph W refl tt in
+    let gateway_scene = in_gateway.gateway_scene W refl exported_exported_graph scene_read_scene in
+    let gateway_update = in_gateway.gateway_update W refl exported_exported_graph lent_graph_update in
     let show_header_below = bits_read & tt in
     let show_header_show_file_new = in_show_header.show_file_new W refl show_header_below in
     let show_header_show_file_part = in_show_header.show_file_part W refl show_header_below in
@@ -277,7 +279,8 @@ linked =
     let show_parts_show_scene = in_show_parts.show_scene W refl show_parts_below in
     let show_parts_show_update = in_show_parts.show_update W refl show_parts_below in
     let show_parts_update_part = in_show_parts.update_part W refl show_parts_below in
-    let show_lines_below = ranks_rank & text_writer_put_last & text_writer_put_number & text_writer_put_two & validation_parents_of & tt in
+    let show_lines_below =
+    ranks_larger & ranks_rank & text_writer_put_last & text_writer_put_number & text_writer_put_two & validation_parents_of & tt in
     let show_lines_put_part = in_show_lines.put_part W refl show_lines_below in
     let show_lines_put_refused = in_show_lines.put_refused W refl show_lines_below in
     let show_lines_put_shapes = in_show_lines.put_shapes W refl show_lines_below in

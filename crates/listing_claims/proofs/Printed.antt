@@ -44,8 +44,8 @@ use Rattle.listing_claims.proofs.Lines.{printed_lines, printed_is}
 
 module _ (bs ws : List ℕ) (offset : ℕ) where
   pub scene_printed : {vs : List ℕ} {r : SceneAnswer} → SceneAnswered (scene_reading (input_of bs true ws) offset) true ws r vs →
-      printed r.answer vs ≡ listing (scene_reading (input_of bs true ws) offset)
-  scene_printed p = printed_is bs ws _ offset _ (scene_known _ offset) p.answered.answer p.answered.words
+      printed r.graph.answer vs ≡ listing (scene_reading (input_of bs true ws) offset)
+  scene_printed p = printed_is bs ws _ offset _ (scene_known _ offset) p.answered.answered.answer p.answered.answered.words
 
   pub metadata_printed : {vs : List ℕ} {answer : Answer} → Answered (metadata_reading (input_of bs true ws) offset) tt true ws answer tt vs →
       printed answer vs ≡ listing (metadata_reading (input_of bs true ws) offset)

@@ -108,7 +108,7 @@ module _ {B : Type 0} (f : ℕ → Rule B) {x : ℕ} {p : Parser} {b : std.Resul
   remaining_is e y = first_remaining f (subst (λ (v : ℕ). Met (f v) p b u) e y)
 
 -- a value that the code leaves in what it was lent, by another name
-pub giving_as : {A : Type 0} {r : Rule A} {p q : Parser} {a b : A} (x : std.Result (Unit {0}) Reason) → b ≡ a → Met r p (giving a x) q → Met r p (giving b x) q
+pub giving_as : {A B : Type 0} {r : Rule A} {p q : Parser} {a b : A} (x : std.Result B Reason) → b ≡ a → Met r p (giving a x) q → Met r p (giving b x) q
 giving_as x e m = rw e m
 
 -- a test of the rule, by what the code knows of it

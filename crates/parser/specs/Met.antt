@@ -32,7 +32,7 @@ pub record Met {A : Type 0} (r : Rule A) (p : Parser) (a : std.Result A Reason) 
   pub recording : q.recording ≡ p.recording
   pub gives : Gives (reading_at p r) p.recording p.fields p.words.now a q
 
--- A result whose value is `a`, which the code leaves in what it was lent.
-abbrev pub giving : {A : Type 0} → A → std.Result (Unit {0}) Reason → std.Result A Reason
-giving a (Ok u) = Ok a
+-- A result whose value is `a`, which the code leaves in what it was lent, whatever it gives back.
+abbrev pub giving : {A B : Type 0} → A → std.Result B Reason → std.Result A Reason
+giving a (Ok b) = Ok a
 giving a (Err e) = Err e

@@ -14,8 +14,10 @@ use Rattle.rules.specs.Reason.{number_of, end_of, Refuses}
 use Rattle.rules.proofs.Numbered.{numbered}
 use Rattle.rules.specs.Reading.{Reading, is_read}
 use Rattle.rules.specs.Words.{encoded, recorded}
-use Rattle.rules.specs.Answer.{end_outcome, Answered}
+use Rattle.rules.specs.Answer.{end_outcome}
 use Rattle.position.specs.declared.PositionSyntax.{PositionSyntax}
+use Rattle.validation.specs.declared.GraphAnswer.{GraphAnswer}
+use Rattle.validation.specs.Validation.{GraphAnswered}
 use Rattle.scene.specs.declared.SceneAnswer.{SceneAnswer}
 use Rattle.scene.specs.Scene.{SceneAnswered}
 use Rattle.book.specs.Step.{book_state}
@@ -29,7 +31,7 @@ use Rattle.part_fields.specs.Part.{listed, unlisted, shapes_before, part_from, u
 
 -- the shapes that the parts from i up to k leave: one of them, and those after it
 module _ (file : List ℕ) (k i : ℕ) (s : List PositionSyntax) where
-  pub shapes_more : i < k → {a : Answer} {t : List PositionSyntax} {vs : List ℕ} → Answered (book_reading (packet file i) s) s false [] a t vs →
+  pub shapes_more : i < k → {a : GraphAnswer} {t : List PositionSyntax} {vs : List ℕ} → GraphAnswered (book_reading (packet file i) s) s false [] a t vs →
       book_shapes (packets file (k - (i + 1)) (i + 1)) t ≡ book_shapes (packets file (k - i) i) s
   unfolding packets book_state
   shapes_more h y = let more : k - i ≡ suc (k - (i + 1)) = omega arith in rw (more, update_left (packet file i) y)
@@ -39,9 +41,9 @@ module _ (file : List ℕ) (k i : ℕ) (s : List PositionSyntax) where
   shapes_end h = let none : k - i ≡ 0 = omega arith in rw none
 
 -- the answer of a reading, and of a part that is not read: its words are left alone
-read_answered : {x : Reading (List PositionSyntax)} {a v : List PositionSyntax} {ws vs : List ℕ} {r : Answer} → Answered x a true ws r v vs →
-    PartAnswered (listed x) ws (Ok r) vs
-read_answered y = record { answer = ap Ok y.answer; words = y.words }
+read_answered : {x : Reading (List PositionSyntax)} {a v : List PositionSyntax} {ws vs : List ℕ} {r : GraphAnswer} → GraphAnswered x a true ws r v vs →
+    PartAnswered (listed x) ws (Ok r.answer) vs
+read_answered y = record { answer = ap Ok y.answered.answer; words = y.answered.words }
 
 unread_answered : {a : NotRead} {ws : List ℕ} → PartAnswered (unlisted a) ws (Err a) ws
 unfolding recorded encoded
@@ -49,22 +51,22 @@ unread_answered = record { answer = refl; words = refl }
 
 -- whether the scene was read, by its answer
 scene_told : (file : List ℕ) {scene : SceneAnswer} {us : List ℕ} → SceneAnswered (book_scene (packet file 0)) false [] scene us → {b : Bool} →
-    is_read scene.answer.outcome ≡ b → is_accepted (scene_step (packet file 0) []).told ≡ b
+    is_read scene.graph.answer.outcome ≡ b → is_accepted (scene_step (packet file 0) []).told ≡ b
 scene_told file y h = rw (scene_answer (packet file 0) y) at h
 
 module _ (file : List ℕ) (k offset : ℕ) {ws : List ℕ} where
   -- an update, by what the scene answered, and the shapes that the parts between them left
   module _ {scene : SceneAnswer} {us : List ℕ} (y : SceneAnswered (book_scene (packet file 0)) false [] scene us) where
-    pub update_answered : is_read scene.answer.outcome ≡ true → {shapes next : List PositionSyntax} →
-        shapes ≡ book_shapes (packets file (k - 1) 1) (take scene.count scene.shapes) → {vs : List ℕ} {r : Answer} →
-        Answered (book_reading (part_from file k offset ws) shapes) shapes true ws r next vs →
-        PartAnswered (update_listed file k (part_from file k offset ws)) ws (Ok r) vs
+    pub update_answered : is_read scene.graph.answer.outcome ≡ true → {shapes next : List PositionSyntax} →
+        shapes ≡ book_shapes (packets file (k - 1) 1) (take scene.count scene.shapes) → {vs : List ℕ} {r : GraphAnswer} →
+        GraphAnswered (book_reading (part_from file k offset ws) shapes) shapes true ws r next vs →
+        PartAnswered (update_listed file k (part_from file k offset ws)) ws (Ok r.answer) vs
     unfolding update_listed shapes_before
     update_answered h e z =
         let before = e ∙ ap (book_shapes (packets file (k - 1) 1)) (scene_declares (packet file 0) y) in
         rw (scene_told file y h, ← before) (read_answered z)
 
-    pub scene_unread : is_read scene.answer.outcome ≡ false → PartAnswered (update_listed file k (part_from file k offset ws)) ws (Err NoScene) ws
+    pub scene_unread : is_read scene.graph.answer.outcome ≡ false → PartAnswered (update_listed file k (part_from file k offset ws)) ws (Err NoScene) ws
     unfolding update_listed
     scene_unread h = rw (scene_told file y h) unread_answered
 
@@ -75,7 +77,7 @@ module _ (file : List ℕ) (k offset : ℕ) {ws : List ℕ} where
     no_part h = rw (← e, le-ltb k n h) unread_answered
 
     pub scene_answered : k < n → k ≡ 0 → {vs : List ℕ} {r : SceneAnswer} → SceneAnswered (book_scene (part_from file 0 offset ws)) true ws r vs →
-        PartAnswered (sound_listed file k (part_from file k offset ws)) ws (Ok r.answer) vs
+        PartAnswered (sound_listed file k (part_from file k offset ws)) ws (Ok r.graph.answer) vs
     unfolding sound_listed
     scene_answered h z y = rw (z, ← e, lt-ltb 0 n (omega arith)) (read_answered y.answered)
 

@@ -28,12 +28,12 @@ answer_at file (suc n) i (suc j) s d h =
 
 -- what the show reads of a file that is not refused: part 0, and part k if the scene was read
 module _ (file : List ℕ) (k : ℕ) (met : file_question file ≡ 0) where
-  scene_off : k ≡ 0 → (part_listed file k (packet file k)).answer ≡ Ok (scene_step (packet file 0) []).told.answer
+  scene_off : k ≡ 0 → (part_listed file k (packet file k)).answer ≡ Ok (scene_step (packet file 0) []).told.graph.answer
   unfolding part_listed sound_listed
   scene_off z = rw (z, scene_told (packet file 0) [], met, lt-ltb 0 (part_count file) (sound_if file (question_met file met)).some)
 
   update_off : is_accepted (scene_step (packet file 0) []).told ≡ true → 1 ≤ k → k < part_count file →
-      (part_listed file k (packet file k)).answer ≡ Ok (update_step (packet file k) (shapes_before file k)).told.answer
+      (part_listed file k (packet file k)).answer ≡ Ok (update_step (packet file k) (shapes_before file k)).told.graph.answer
   unfolding part_listed sound_listed update_listed
   update_off read some h = let z : k ≡ 0 → ⊥ = λ e. omega arith in
       rw (met, lt-ltb k (part_count file) h, ne_eqb k 0 z, read, update_told (packet file k) (shapes_before file k))
@@ -54,14 +54,14 @@ module _ (file ws : List ℕ) (k : ℕ) (room : 81920 ≤ length ws) where
   -- So the answer is the one in the line of part 0, or in the line of part k: of the answers that are printed after the
   -- scene's, the one of index k - 1.
   module _ (met : file_question file ≡ 0) where
-    pub shown_scene : k ≡ 0 → (part_listed file k (part_from file k 0 ws)).answer ≡ Ok (scene_step (packet file 0) []).told.answer
+    pub shown_scene : k ≡ 0 → (part_listed file k (part_from file k 0 ws)).answer ≡ Ok (scene_step (packet file 0) []).told.graph.answer
     shown_scene z = ap (λ (l : Listed). l.answer) listed_off ∙ scene_off file k met z
 
     pub shown_update : is_accepted (scene_step (packet file 0) []).told ≡ true → 1 ≤ k → k < part_count file → (d : Given) →
         (part_listed file k (part_from file k 0 ws)).answer
-        ≡ Ok (get_or (book_answers (packets file (part_count file - 1) 1) (book_first (packet file 0))) (k - 1) d).answer
+        ≡ Ok (get_or (book_answers (packets file (part_count file - 1) 1) (book_first (packet file 0))) (k - 1) d).graph.answer
     unfolding shapes_before
     shown_update read some h d =
         let e : 1 + (k - 1) ≡ k = omega arith in
         let printed = rw e at (answer_at file (part_count file - 1) 1 (k - 1) (book_first (packet file 0)) d (omega arith)) in
-        ap (λ (l : Listed). l.answer) listed_off ∙ update_off file k met read some h ∙ ap (λ (g : Given). Ok g.answer) (sym printed)
+        ap (λ (l : Listed). l.answer) listed_off ∙ update_off file k met read some h ∙ ap (λ (g : Given). Ok g.graph.answer) (sym printed)

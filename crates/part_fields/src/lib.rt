@@ -41,13 +41,13 @@ fn read_update(
         words.old result words.new }
 {
     let mut scene = show_parts::show_scene(file);
-    if !scene.answer.outcome.is_read() {
+    if !scene.graph.answer.outcome.is_read() {
         return Err(NotRead::NoScene);
     }
     let count = scene.count;
     let shapes = &mut scene.shapes[..count];
     shapes_before(file, k, shapes);
-    Ok(show_parts::update_part(file, k, offset, true, words, shapes))
+    Ok(show_parts::update_part(file, k, offset, true, words, shapes).answer)
 }
 
 // Part `k` of a show.
@@ -65,7 +65,8 @@ fn read_sound(
         return Err(NotRead::NoPart);
     }
     if k == 0 {
-        return Ok(show_parts::scene_part(file, offset, true, words).answer);
+        let scene = show_parts::scene_part(file, offset, true, words);
+        return Ok(scene.graph.answer);
     }
     read_update(file, k, offset, words)
 }

@@ -31,7 +31,7 @@ use Rattle.printed_claims.specs.Listing.{HasListingCode, line_of, Lines, none, l
 -- a call that records
 module _ (bs ws : List ℕ) (offset : ℕ) {rec : Bool} (on : rec ≡ true) {vs : List ℕ} where
   scene_printed : {r : SceneAnswer} → SceneAnswered (scene_reading (input_of bs rec ws) offset) rec ws r vs →
-      printed r.answer vs ≡ listing (scene_reading (input_of bs rec ws) offset)
+      printed r.graph.answer vs ≡ listing (scene_reading (input_of bs rec ws) offset)
   scene_printed y = rw on (listings.scene_printed bs ws offset (rw on at y))
 
   metadata_printed : {r : Answer} → Answered (metadata_reading (input_of bs rec ws) offset) tt rec ws r tt vs →
@@ -61,7 +61,7 @@ module _ (w : World) (γ : Env) where
     every_part = parts_read w γ has.part;
     every_line = λ x. lines_put w γ x (has.lines x);
     scene_listed = λ f p σ F run on text out. put_out out ∙ scene_printed _ _ p.offset on run.answered;
-    scene_explained = λ f p σ F run. rw run.answered.answered.answer (explained.scene_explained (input_sent p) p.offset);
+    scene_explained = λ f p σ F run. rw run.answered.answered.answered.answer (explained.scene_explained (input_sent p) p.offset);
     metadata_listed = λ p σ F run on text out. put_out out ∙ metadata_printed _ _ p.offset on run.answered;
     metadata_explained = λ p σ F run. rw run.answered.answer (explained.metadata_explained (input_sent p) p.offset);
     part_listed = λ p σ F run answer e text out. put_out out ∙ listings.part_printed _ _ p.offset _ (ended run e);

@@ -14,13 +14,14 @@ use Rattle.rules.specs.Reading.{is_read}
 use Rattle.position.specs.declared.PositionSyntax.{PositionSyntax}
 use Rattle.validation.specs.Validation.{parents}
 use Rattle.ranks.proofs.Ranks.{chain_ranks}
+use Rattle.ranks.proofs.Largest.{deepest_is}
 use Rattle.text.proofs.TextAnswer.TheLaws as text-answer
 use Rattle.text.proofs.Puts.{put_front, put_long}
 use Rattle.book.specs.Book.{Packet, Given, scene_step, book_first, book_answers, book_shapes}
 use Rattle.book.proofs.Calls.{scene_by_step}
 use Rattle.show_header.specs.Header.{part_count, file_question}
 use Rattle.show_parts.specs.Parts.{packet, packets}
-use Rattle.show_lines.specs.Lines.{part_line, all_positions}
+use Rattle.show_lines.specs.Lines.{part_line, shapes_text}
 use Rattle.show.specs.Show.{part_lines, updates_text, rest_text, parts_text, show_text}
 use Rattle.show.proofs.show.Symbol.{name as show_name, code as show_code}
 use Rattle.show.proofs.Room.{show_enough}
@@ -33,7 +34,7 @@ use Rattle.printed_claims.specs.Show.{text_of, ShowClaim}
 use Rattle.claims.proofs.Calls.{through_ran, list_claim}
 
 -- the text of a file that is not refused, by the scene's answer, the answers after it and the shapes at the end
-module _ (file : List ℕ) (met : file_question file ≡ 0) {a : Answer} (e : a ≡ (scene_step (packet file 0) []).told.answer) where
+module _ (file : List ℕ) (met : file_question file ≡ 0) {a : Answer} (e : a ≡ (scene_step (packet file 0) []).told.graph.answer) where
   text_is : show_text file ≡ part_line 0 a ++ rest_text file a (book_first (packet file 0))
   unfolding show_text parts_text
   text_is = rw met (ap (λ (b : Answer). part_line 0 b ++ rest_text file b (book_first (packet file 0))) (sym e))
@@ -45,15 +46,15 @@ module _ (file : List ℕ) (met : file_question file ≡ 0) {a : Answer} (e : a 
   text_read : is_read a.outcome ≡ true → {gs : List Given} {t : List PositionSyntax} →
       gs ≡ book_answers (packets file (part_count file - 1) 1) (book_first (packet file 0)) →
       t ≡ book_shapes (packets file (part_count file - 1) 1) (book_first (packet file 0)) →
-      show_text file ≡ part_line 0 a ++ (part_lines 1 gs ++ all_positions t)
+      show_text file ≡ part_line 0 a ++ (part_lines 1 gs ++ shapes_text t)
   unfolding rest_text updates_text
   text_read h p q = text_is ∙ rw (h, p, q)
 
 -- the answer of a scene that was fed part 0
 module _ (file : List ℕ) where
   answer_is : {scene : Call} → scene.told ≡ (scene_step scene.fed []).told → scene.fed ≡ packet file 0 →
-      scene.told.answer ≡ (scene_step (packet file 0) []).told.answer
-  answer_is told fed = ap (λ (g : Given). g.answer) told ∙ ap (λ (p : Packet). (scene_step p []).told.answer) fed
+      scene.told.graph.answer ≡ (scene_step (packet file 0) []).told.graph.answer
+  answer_is told fed = ap (λ (g : Given). g.graph.answer) told ∙ ap (λ (p : Packet). (scene_step p []).told.graph.answer) fed
 
 text_of_lem : (w : World) (γ : Env) (p : Showing) (σ : Memory) (F : SProp w.𝓤) (run : Shown w γ p σ F) → text_of w γ run ≡ show_text p.file.held
 text_of_lem w γ p σ F run =
@@ -74,8 +75,8 @@ show_claim w γ has = record {
       let first = claim.first_are ∙ ap book_first fed in
       text_of_lem w γ p σ F run
       ∙ text_read p.file.held met (answer_is p.file.held claim.scene_is fed)
-      (ap (λ (c : Call). is_read c.told.answer.outcome) a.call_is ∙ a.read)
+      (ap (λ (c : Call). is_read c.told.graph.answer.outcome) a.call_is ∙ a.read)
       (claim.booked.told_are ∙ ap₂ book_answers others first)
       (claim.booked.state_is ∙ ap₂ book_shapes others first);
-  ranks = λ scene s t π ρ cs a r. chain_ranks (parents t) (list_claim w γ scene s t π cs a (through_ran w γ r)).ranked;
+  ranks = λ scene s t π ρ cs a r. (chain_ranks (parents t) (list_claim w γ scene s t π cs a (through_ran w γ r)).ranked, deepest_is (parents t));
 }

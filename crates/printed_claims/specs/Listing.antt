@@ -71,10 +71,10 @@ module _ (w : World) (γ : Env) where
     pub every_line : (x : Line) → LineFits x → (bytes : Cells ℕ) → length bytes.held ≡ 256 → (σ : Memory) (F : Beside) →
         σ ⊨ LineInCells w x bytes F → ∥ LinePut w γ x bytes σ F ∥₁
     pub scene_listed : (x : Variant) (p : Sent) (σ : Memory) (F : Beside) (run : SceneRead w γ x p σ F) → p.recording ≡ true →
-        (text : List ℕ) → PutOut run.answer.answer (refilled p.words run.words) text →
+        (text : List ℕ) → PutOut run.answer.graph.answer (refilled p.words run.words) text →
         text ≡ listing (scene_reading (input_sent p) p.offset)
     pub scene_explained : (x : Variant) (p : Sent) (σ : Memory) (F : Beside) (run : SceneRead w γ x p σ F) →
-        Explained run.answer.answer.outcome
+        Explained run.answer.graph.answer.outcome
     pub metadata_listed : (p : Sent) (σ : Memory) (F : Beside) (run : MetadataRead w γ p σ F) → p.recording ≡ true →
         (text : List ℕ) → PutOut run.answer (refilled p.words run.words) text → text ≡ listing (metadata_reading (input_sent p) p.offset)
     pub metadata_explained : (p : Sent) (σ : Memory) (F : Beside) (run : MetadataRead w γ p σ F) → Explained run.answer.outcome

@@ -8,13 +8,13 @@ use prog.Routine.{Env}
 use borrow.Fn.World.{World}
 use Rattle.rules.specs.Reading.{is_read}
 use Rattle.position.specs.declared.PositionSyntax.{PositionSyntax}
-use Rattle.ranks.specs.Rank.{Ranks, rank_of}
-use Rattle.validation.specs.Validation.{parents}
+use Rattle.ranks.specs.Rank.{Ranks, Largest, rank_of}
+use Rattle.validation.specs.Validation.{parents, largest_rank}
 use Rattle.text.proofs.TextAnswer.TheLaws as text-answer
 use Rattle.book.specs.Step.{all_fed, all_told}
 use Rattle.show_header.specs.Header.{part_count, file_question}
 use Rattle.show_parts.specs.Parts.{packet, packets}
-use Rattle.show_lines.specs.Lines.{part_line, all_positions}
+use Rattle.show_lines.specs.Lines.{part_line, shapes_text}
 use Rattle.show.specs.Show.{part_lines, show_text}
 use Rattle.show.proofs.show.Symbol.{name as show_name}
 use Rattle.owner.specs.Cells.{slice, pointer}
@@ -48,13 +48,13 @@ module _ (w : World) (γ : Env) where
     -- A file that is not refused. If a reading of part 0 as a scene did not accept it, its answer is all that is told.
     pub refused : (p : Showing) (σ : Memory) (F : Beside) (run : Shown w γ p σ F) → file_question p.file.held ≡ 0 →
         (x : Variant) (q : Sent) (π : Memory) (G : Beside) (scene : SceneRead w γ x q π G) → packet_sent q ≡ packet p.file.held 0 →
-        is_read scene.answer.answer.outcome ≡ false → text_of run ≡ part_line 0 scene.answer.answer
+        is_read scene.answer.graph.answer.outcome ≡ false → text_of run ≡ part_line 0 scene.answer.graph.answer
     -- If it did, and updates were called on the other parts, one after another through one memory, each on the shapes that the call
     -- before left, then the answers that are told are theirs, and the positions those of the shapes that they left ..
     pub told : (p : Showing) (σ : Memory) (F : Beside) (run : Shown w γ p σ F) → file_question p.file.held ≡ 0 →
         (scene : Call) (s t : List PositionSyntax) (π ρ : Memory) (cs : List Call) → Accepted w γ scene s π → Through w γ π s cs ρ t →
         scene.fed ≡ packet p.file.held 0 → all_fed cs ≡ packets p.file.held (part_count p.file.held - 1) 1 →
-        text_of run ≡ part_line 0 scene.told.answer ++ (part_lines 1 (all_told cs) ++ all_positions t)
-    -- .. which have the ranks that are told.
+        text_of run ≡ part_line 0 scene.told.graph.answer ++ (part_lines 1 (all_told cs) ++ shapes_text t)
+    -- .. which have the ranks that are told, and of these the largest.
     pub ranks : (scene : Call) (s t : List PositionSyntax) (π ρ : Memory) (cs : List Call) → Accepted w γ scene s π → Through w γ π s cs ρ t →
-        Ranks (parents t) (rank_of (parents t))
+        Ranks (parents t) (rank_of (parents t)) × Largest (parents t) (rank_of (parents t)) (largest_rank t)

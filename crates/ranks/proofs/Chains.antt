@@ -6,7 +6,7 @@ use native.Mathlib.Omega.{arith}
 use native.Mathlib.Numerals.{add-one}
 use borrow.Author.Tests.{le-leb, lt-leb, ne_eqb}
 use lib.Dec.{eqb, leb}
-use lib.ListN.{length, get_or}
+use lib.ListN.{length}
 use Rattle.rules.specs.declared.reason.Reason.{Reason}
 use Rattle.rules.specs.Rule.{refused}
 use Rattle.rules.specs.Reason.{number_of, end_of}
@@ -35,14 +35,6 @@ module _ (ps : List ℕ) where
   pub climb_up : (f k i : ℕ) → Declared ps i → climb ps (suc f) k i ≡ climb ps f (suc k) (parent_of ps i)
   unfolding climb
   climb_up f k i d = simp (ne_eqb i 0 (λ e. omega arith), le-leb i (length ps) d.to)
-
-  -- a turn of the loop over a chain
-  pub climb_turn : (n k i : ℕ) → k ≤ n → Declared ps i →
-      climb ps (suc n - k) k i ≡ climb ps (suc n - (k + 1)) (k + 1) (get_or ps (i - 1) 0)
-  climb_turn n k i l d =
-      let a : suc n - k ≡ suc (n - k) = omega arith in
-      let b : suc n - (k + 1) ≡ n - k = omega arith in
-      rw (a, b, add-one) (climb_up (n - k) k i d)
 
   -- a turn of the loop over the positions, and its end
   judge_turn : (i : ℕ) (c : Chain) → c ≡ chain ps (i + 1) → i < length ps →

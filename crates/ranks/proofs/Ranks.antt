@@ -1,13 +1,15 @@
 -- What computed chains and numbers mean: which positions have a rank, and that validation accepts exactly if all have one.
-use Prim.Native.Nat.{ℕ, zero, suc, ◌+◌, ◌-◌, ◌<◌}
+use Prim.Native.Nat.{ℕ, zero, suc, ◌+◌, ◌-◌, ◌<◌, ◌≤◌}
 use mathlib.Core.Path.{◌≡◌, refl, sym, ◌∙◌, ap, subst}
 use mathlib.Core.List.{List}
 use mathlib.Core.Logic.{◌⊎◌, inl, inr, ⊎_elim, ◌≢◌, ◌↔◌}
 use native.Mathlib.Omega.{arith}
 use native.Mathlib.Nat.{zero-add, suc-add, add-zero}
+use native.Mathlib.Numerals.{add-one}
 use native.Mathlib.Decide.{ℕ_discrete, dec_lt}
 use lib.ListN.{length}
 use Rattle.std.specs.Prelude.{Ok, Err}
+use Rattle.rules.specs.declared.reason.Reason.{Reason}
 use Rattle.rules.specs.declared.reason.Reason.TheVariants.{ParentUndeclared, ParentsInCircle}
 use Rattle.ranks.specs.Rank.{Chain, parent_of, Declared, RankRule, Ranks, HaveRanks, above, Passes, HasRank, GoesOut, GoesRound, Ranked, RankedBefore, Judged, all_ranked, first_out, first_round, ForParents, rank_in, rank_of, climb, chain, on_chain, judge, verdict}
 use Rattle.ranks.proofs.Pigeons.{Twice, pigeons}
@@ -16,11 +18,11 @@ use Rattle.ranks.proofs.Chains.{climb_none, climb_end, climb_out, climb_up}
 module _ (ps : List ℕ) where
   -- Chains, one number further and one number less.
 
-  above_zero : (i : ℕ) → above ps 0 i ≡ i
+  pub above_zero : (i : ℕ) → above ps 0 i ≡ i
   unfolding above
   above_zero i = refl
 
-  above_add : (m k i : ℕ) → above ps (m + k) i ≡ above ps k (above ps m i)
+  pub above_add : (m k i : ℕ) → above ps (m + k) i ≡ above ps k (above ps m i)
   unfolding above
   above_add zero k i = rw zero-add
   above_add (suc m) k i = rw suc-add (above_add m k (parent_of ps i))
@@ -38,7 +40,7 @@ module _ (ps : List ℕ) where
   unfolding above
   rank_more d h = record { passes = passes_more d h.passes; ends = h.ends }
 
-  rank_less : {i r : ℕ} → HasRank ps i (suc r) → HasRank ps (parent_of ps i) r
+  pub rank_less : {i r : ℕ} → HasRank ps i (suc r) → HasRank ps (parent_of ps i) r
   unfolding above
   rank_less h = record { passes = passes_less _ _ h.passes; ends = h.ends }
 
@@ -51,6 +53,10 @@ module _ (ps : List ℕ) where
   out_more : {i : ℕ} → Declared ps i → GoesOut ps (parent_of ps i) → GoesOut ps i
   unfolding above
   out_more d h = record { at = suc h.at; passes = passes_more d h.passes; beyond = h.beyond }
+
+  round_more : {i : ℕ} → Declared ps i → GoesRound ps (parent_of ps i) → GoesRound ps i
+  unfolding above
+  round_more d g = record { first = suc g.first; again = suc g.again; later = omega (arith, g.later); passes = passes_more d g.passes; same = g.same }
 
   -- what a chain is found to do when `f` of its numbers are looked at, after `k` positions
   data Found (f k i : ℕ) : Chain → Type 0 where
@@ -86,7 +92,7 @@ module _ (ps : List ℕ) where
     returns : GoesRound ps i → Does i (Err ParentsInCircle)
 
   -- one number more than there are positions cannot all be different
-  goes_round : (i : ℕ) → Passes ps (suc (length ps)) i → GoesRound ps i
+  pub goes_round : (i : ℕ) → Passes ps (suc (length ps)) i → GoesRound ps i
   goes_round i p =
       from (pigeons (length ps) (λ k. above ps k i - 1) (λ k l. omega (arith, (p k (omega arith)).from, (p k (omega arith)).to)))
     where
@@ -176,6 +182,54 @@ module _ (ps : List ℕ) where
       by (ends g) = ap Ok (rank_unique g h)
       by (leaves g) = absurd (out_no_rank g h)
       by (returns g) = absurd (round_no_rank g h)
+
+  pub out_computed : {i : ℕ} → GoesOut ps i → chain ps i ≡ Err ParentUndeclared
+  out_computed {i} o = by (does i)
+    where
+      by : {c : Chain} → Does i c → c ≡ Err ParentUndeclared
+      by (ends g) = absurd (out_no_rank o g)
+      by (leaves g) = refl
+      by (returns g) = absurd (out_no_round o g)
+
+  pub round_computed : {i : ℕ} → GoesRound ps i → chain ps i ≡ Err ParentsInCircle
+  round_computed {i} o = by (does i)
+    where
+      by : {c : Chain} → Does i c → c ≡ Err ParentsInCircle
+      by (ends g) = absurd (round_no_rank o g)
+      by (leaves g) = absurd (out_no_round g o)
+      by (returns g) = refl
+
+  pub computed_rank : {i r : ℕ} → Ok r ≡ chain ps i → HasRank ps i r
+  computed_rank {i} {r} e = by (does i) e
+    where
+      by : {c : Chain} → Does i c → Ok r ≡ c → HasRank ps i r
+      by (ends {r = s} g) q = let same : s ≡ r = cc in subst (HasRank ps i) same g
+      by (leaves g) q = absurd (let z : ◌≡◌ {A = ℕ} 0 1 = cc in omega arith)
+      by (returns g) q = absurd (let z : ◌≡◌ {A = ℕ} 0 1 = cc in omega arith)
+
+  -- a chain that ends has each position once
+  pub rank_few : {i r : ℕ} → HasRank ps i r → r ≤ length ps
+  rank_few {i} {r} h = by (dec_lt (length ps) r)
+    where
+      by : Dec (length ps < r) → r ≤ length ps
+      by (yes l) = absurd (round_no_rank (goes_round i (λ j m. h.passes j (omega arith))) h)
+      by (no n) = omega arith
+
+  -- the chain of a position by that of its parent, which is `c`
+  module _ {i : ℕ} {c : Chain} (d : Declared ps i) (is : c ≡ chain ps (parent_of ps i)) where
+    pub parent_ends : {r : ℕ} → c ≡ Ok r → HasRank ps i (r + 1)
+    parent_ends e = rw add-one (rank_more d (computed_rank (sym e ∙ is)))
+
+    pub parent_fits : {m r : ℕ} → length ps < m → c ≡ Ok r → r + 1 < m
+    parent_fits l e = let few = rank_few (parent_ends e) in omega (arith, few)
+
+    pub parent_ended : {e : Reason} → c ≡ Err e → Err e ≡ chain ps i
+    parent_ended {e} m = by (does (parent_of ps i)) (sym m ∙ is)
+      where
+        by : {x : Chain} → Does (parent_of ps i) x → Err e ≡ x → Err e ≡ chain ps i
+        by (ends g) q = absurd (let z : ◌≡◌ {A = ℕ} 0 1 = cc in omega arith)
+        by (leaves g) q = q ∙ sym (out_computed (out_more d g))
+        by (returns g) q = q ∙ sym (round_computed (round_more d g))
 
   -- and the ranks that the positions have by their chains are ranks for all
   pub has_ranks : ((i : ℕ) → Declared ps i → Ranked ps i) → Ranks ps (rank_of ps)

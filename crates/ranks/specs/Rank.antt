@@ -1,6 +1,6 @@
 -- Which positions have a rank, and what validation says of their parents.
 -- A list `ps` has the parents of positions 1 to its length; 0 is no parent.
-use Rattle.std.specs.Prelude.{ℕ, zero, suc, ◌-◌, ◌≤◌, ◌<◌, ◌≡◌, List, ◌⊎◌, Result, Ok, Err, length, get_or, leb, eqb}
+use Rattle.std.specs.Prelude.{ℕ, zero, suc, ◌-◌, ◌≤◌, ◌<◌, ◌≡◌, max, List, ◌⊎◌, Result, Ok, Err, length, get_or, leb, eqb}
 use Rattle.rules.specs.Rule.{pick}
 use Rattle.rules.specs.declared.reason.Reason.{Reason}
 use Rattle.rules.specs.declared.reason.Reason.TheVariants.{ParentUndeclared, ParentsInCircle}
@@ -27,6 +27,15 @@ Ranks ps rank = (i : ℕ) → Declared ps i → RankRule ps rank i
 -- every position has a rank
 abbrev pub HaveRanks : List ℕ → Type 0
 HaveRanks ps = (rank : ℕ → ℕ) × Ranks ps rank
+
+-- d is the largest of these ranks: no position has a larger one and, unless there are no positions, some position has it.
+pub record Largest (ps : List ℕ) (rank : ℕ → ℕ) (d : ℕ) : Type 0 where
+  pub none_larger : (i : ℕ) → Declared ps i → rank i ≤ d
+  pub reached : ((length ps ≡ 0) × (d ≡ 0)) ⊎ ((i : ℕ) × Declared ps i × (rank i ≡ d))
+
+-- every position has a rank, and d is the largest
+abbrev pub HaveLargest : List ℕ → ℕ → Type 0
+HaveLargest ps d = (rank : ℕ → ℕ) × Ranks ps rank × Largest ps rank d
 
 -- The chain of i: its k-th number is i itself, its parent, the parent of that, ..
 unfoldable pub above : List ℕ → ℕ → ℕ → ℕ
@@ -95,6 +104,14 @@ rank_in (Err e) = 0
 
 abbrev pub rank_of : List ℕ → ℕ → ℕ
 rank_of ps i = rank_in (chain ps i)
+
+-- the largest rank of the positions up to n; and of all, 0 if there are none
+unfoldable pub largest_up_to : List ℕ → ℕ → ℕ
+largest_up_to ps zero = 0
+largest_up_to ps (suc n) = max (largest_up_to ps n) (rank_of ps (suc n))
+
+abbrev pub deepest : List ℕ → ℕ
+deepest ps = largest_up_to ps (length ps)
 
 -- the number by the chain of one position, if `next` is that of the positions after it
 abbrev pub on_chain : Chain → ℕ → ℕ

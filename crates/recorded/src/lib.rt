@@ -317,6 +317,13 @@ pub fn next_count<R: Read>(input: &mut R) -> usize
     number(&next_bytes::<2, R>(input)) as usize
 }
 
+// The next largest rank, of 1 byte.
+pub fn next_rank<R: Read>(input: &mut R) -> usize
+    ensures { NextIs 1 big_endian (R.remaining input.old) (R.remaining input.new) result }
+{
+    number(&next_bytes::<1, R>(input)) as usize
+}
+
 // The next shape: flags (1 byte: parent dynamic, range dynamic, polar from the lowest bit), three bytes of 0, the
 // precisions (4 each) and the parent (8).
 pub fn next_shape<R: Read>(input: &mut R) -> PositionSyntax

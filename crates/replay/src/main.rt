@@ -1,8 +1,8 @@
 // Replays recorded answers of the oracle: those of the Rust, and for name words, which it does not have, those of
-// docs/FIELDS.md. Standard input holds records; each is run, and its answer, its shapes, its field words and the words after
-// them are held to what the oracle gave, and so are the text of a name or of a show and the bytes after it.
-// `oracle/README.md` says how a record is laid out: a head of 34 bytes, the input, what is handed in, the shapes after the
-// call, and the words of the recorded fields or the text.
+// docs/FIELDS.md. Standard input holds records; each is run, and its answer, its largest rank, its shapes, its field words and
+// the words after them are held to what the oracle gave, and so are the text of a name or of a show and the bytes after it.
+// `oracle/README.md` says how a record is laid out: a head of 34 bytes, the input, what is handed in, the largest rank and the
+// shapes after the call, and the words of the recorded fields or the text.
 #![tactic(auto)]
 
 use parser::Parser;
@@ -11,6 +11,7 @@ use recorded::{Head, Kind, NoRecord, Reading};
 use rules::Answer;
 use std::alloc::Global;
 use std::io::{self, Read};
+use validation::GraphAnswer;
 
 // The most bytes of an input, or of a name.
 const BYTES: usize = 262144;
@@ -43,7 +44,7 @@ impl Tally {
     }
 }
 
-// An answer, and whether the shapes after the call are the recorded ones.
+// An answer, and whether the largest rank and the shapes after the call are the recorded ones.
 #[derive(Clone, Copy)]
 struct Ran {
     answer: Answer,
@@ -61,14 +62,20 @@ fn run_fields<R: Read>(reader: &mut R, head: &Head, bytes: &[u8], words: &mut [u
     }
 }
 
+// Whether the next byte of a record is the largest rank of an answer.
+fn is_deepest<R: Read>(reader: &mut R, graph: GraphAnswer) -> bool {
+    recorded::next_rank(reader) == graph.deepest
+}
+
 fn run_scene<R: Read>(reader: &mut R, head: &Head, bytes: &[u8], words: &mut [u64]) -> Ran {
     let scene = scene::read_scene(bytes, head.offset(), head.recording(), words);
+    let deepest = is_deepest(reader, scene.graph);
     let n = recorded::next_count(reader);
     let default = [PositionSyntax::default(); 63];
     let same = recorded::same_shapes(reader, scene.shapes, n, default);
     Ran {
-        answer: scene.answer,
-        same: same && scene.count == n,
+        answer: scene.graph.answer,
+        same: deepest && same && scene.count == n,
     }
 }
 
@@ -76,9 +83,11 @@ fn run_update<R: Read>(reader: &mut R, head: &Head, bytes: &[u8], words: &mut [u
     let n = head.count();
     let before = recorded::next_shapes(reader, n);
     let update = update::graph_update(bytes, head.offset(), head.recording(), words, before, n);
+    let deepest = is_deepest(reader, update.graph);
+    let same = recorded::same_shapes(reader, update.shapes, n, before);
     Ran {
-        answer: update.answer,
-        same: recorded::same_shapes(reader, update.shapes, n, before),
+        answer: update.graph.answer,
+        same: deepest && same,
     }
 }
 
@@ -102,9 +111,10 @@ fn run_position<R: Read>(reader: &mut R, head: &Head, bytes: &[u8], words: &mut 
 fn run_validation<R: Read>(reader: &mut R, head: &Head) -> Ran {
     let n = head.count();
     let shapes = recorded::next_shapes(reader, n);
+    let graph = validation::validate_graph(shapes, n, head.offset());
     Ran {
-        answer: validation::validate_graph(shapes, n, head.offset()),
-        same: true,
+        answer: graph.answer,
+        same: is_deepest(reader, graph),
     }
 }
 

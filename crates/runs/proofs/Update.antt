@@ -21,10 +21,10 @@ use denote.Laws.{Is, Typed, Makes}
 use denote.Struct.Laws.{makes, lawful, owed}
 use borrow.Fn.World.{World}
 use Rattle.rules.specs.Reading.{Reading}
-use Rattle.rules.specs.declared.Answer.{Answer}
-use Rattle.rules.specs.Answer.{Answered}
-use Rattle.rules.specs.contracts.Answer as answer-row
-use Rattle.rules.proofs.Answer.TheLaws as answer-laws
+use Rattle.validation.specs.declared.GraphAnswer.{GraphAnswer}
+use Rattle.validation.specs.Validation.{GraphAnswered}
+use Rattle.validation.specs.contracts.GraphAnswer as answer-row
+use Rattle.validation.proofs.GraphAnswer.TheLaws as answer-laws
 use Rattle.position.specs.declared.PositionSyntax.{PositionSyntax}
 use Rattle.position.specs.contracts.PositionSyntax as shape_row_lem
 use Rattle.position.proofs.PositionSyntax.TheLaws as shape-laws
@@ -36,10 +36,10 @@ use Rattle.update.specs.contracts.graph_update as value-update
 use Rattle.update.proofs.graph_update.Met.{met as value-met}
 use Rattle.lent.specs.contracts.graph_update as lent_update
 use Rattle.lent.proofs.graph_update.Met.{met as lent_met}
-use Rattle.exported.specs.declared.GatewayAnswer.{GatewayAnswer}
-use Rattle.exported.specs.Exported.{Exported}
-use Rattle.exported.specs.contracts.GatewayAnswer as exported-row
-use Rattle.exported.proofs.GatewayAnswer.TheLaws as exported-laws
+use Rattle.exported.specs.declared.GatewayGraphAnswer.{GatewayGraphAnswer}
+use Rattle.exported.specs.Exported.{GraphExported}
+use Rattle.exported.specs.contracts.GatewayGraphAnswer as exported-row
+use Rattle.exported.proofs.GatewayGraphAnswer.TheLaws as exported-laws
 use Rattle.gateway.specs.contracts.gateway_update as gateway-update
 use Rattle.gateway.proofs.gateway_update.Met.{met as gateway-met}
 use Rattle.owner.specs.Cells.{Cells, refilled, slice}
@@ -126,13 +126,13 @@ module _ (w : World) where
       (via w.𝓤 both (snd∗ w.𝓤 (Bytes w p.share p.bytes) both) (snd∗ w.𝓤 (Words w (refilled p.words ws)) shapes)) s)
 
   -- a run of either, by what was left of its parameters
-  lent_updated : (γ : Env) (v : Variant) (p : Sent) (d : Cells PositionSyntax) (σ : Memory) (F : SProp w.𝓤) (answer : Answer) (left : Lefts lent_kinds) →
+  lent_updated : (γ : Env) (v : Variant) (p : Sent) (d : Cells PositionSyntax) (σ : Memory) (F : SProp w.𝓤) (answer : GraphAnswer) (left : Lefts lent_kinds) →
       AsMany lent_kinds (sent_given 3 tt tt in_cells p (d, tt)) left → (memory : Memory) →
       let words = words_left 3 tt tt in_cells left in
       let shapes = (rest_left 3 tt tt in_cells left).0 in
       Ran (update_routine γ (lent v)) (passed p (slice d ∷ [])) σ (update_value (lent v) answer shapes) memory →
       ◌⊨◌ w memory (SentInCells w p words (sep w.𝓤 (Shapes w (refilled d shapes)) F)) →
-      Answered (update_reading (input_sent p) p.offset (length d.held) d.held) d.held p.recording p.words.held answer shapes words →
+      GraphAnswered (update_reading (input_sent p) p.offset (length d.held) d.held) d.held p.recording p.words.held answer shapes words →
       ∥ Updated w γ (lent v) p d σ F ∥₁
   lent_updated γ v p d σ F answer left many memory ran holds answered =
       let words = words_left 3 tt tt in_cells left in
@@ -159,7 +159,7 @@ module _ (w : World) where
       ∥∥₁_map (sent_runs w 2 tt tt counted (tt, (tt, tt)) update-row.the_row update-laws.lowered (update_routine γ by_value) value_says
       (update-laws.lowers).val_is (value-met w.𝓤 w.𝓛 w.𝓜 (reading w γ) has) (shapes_made, (number_made w, tt)) p ok
       (h.shapes, (h.count, tt)) (array, ((refl, fits.count), tt)) σ F holds) (λ t. record {
-        answer = t.result.answer;
+        answer = t.result.graph;
         words = words_left 2 tt tt counted t.left;
         shapes = t.result.shapes;
         memory = t.memory;
@@ -173,13 +173,13 @@ module _ (w : World) where
       })
   updates γ (lent plain) has p ok d fits σ F holds =
       ∥∥₁_elim (sent_runs w 3 tt tt in_cells (shapes_placed w, tt) answer-row.the_row answer-laws.lowered (update_routine γ (lent plain))
-      (lent_says answer-row.the_row Answered) (answer-laws.lowers).val_is (lent_met w.𝓤 w.𝓛 w.𝓜 (reading w γ) has) (tt, tt) p ok
+      (lent_says answer-row.the_row GraphAnswered) (answer-laws.lowers).val_is (lent_met w.𝓤 w.𝓛 w.𝓜 (reading w γ) has) (tt, tt) p ok
       (d, tt) (fits, tt) σ F holds) ∥∥₁_prop (λ t.
       lent_updated γ plain p d σ F t.result t.left t.as_many t.memory t.ran t.holds t.ensured)
   updates γ (lent exported) has p ok d fits σ F holds =
       ∥∥₁_elim (sent_runs w 3 tt tt in_cells (shapes_placed w, tt) exported-row.the_row exported-laws.lowered (update_routine γ (lent exported))
-      (lent_says exported-row.the_row Exported) (exported-laws.lowers).val_is (gateway-met w.𝓤 w.𝓛 w.𝓜 (reading w γ) has) (tt, tt) p ok
+      (lent_says exported-row.the_row GraphExported) (exported-laws.lowers).val_is (gateway-met w.𝓤 w.𝓛 w.𝓜 (reading w γ) has) (tt, tt) p ok
       (d, tt) (fits, tt) σ F holds) ∥∥₁_prop (λ t.
-      let Returns : GatewayAnswer → Type 0 = λ r. Ran (update_routine γ (lent exported)) (passed p (slice d ∷ [])) σ (exported-laws.lowered r) t.memory in
+      let Returns : GatewayGraphAnswer → Type 0 = λ r. Ran (update_routine γ (lent exported)) (passed p (slice d ∷ [])) σ (exported-laws.lowered r) t.memory in
       let ran = subst Returns t.ensured.same t.ran in
-      lent_updated γ exported p d σ F t.ensured.answer t.left t.as_many t.memory ran t.holds t.ensured.answered)
+      lent_updated γ exported p d σ F t.ensured.graph t.left t.as_many t.memory ran t.holds t.ensured.answered)

@@ -11,7 +11,7 @@ use Rattle.scene.specs.Scene.{scene_reading, SceneAnswered}
 use Rattle.scene.proofs.SceneAnswer.TheLaws as answer
 use Rattle.scene.proofs.read_scene.Symbol.{name as read_scene, code as read_scene_code}
 use Rattle.gateway.specs.declared.GatewayScene.{GatewayScene}
-use Rattle.exported.specs.Exported.{exported as exported_answer}
+use Rattle.exported.specs.Exported.{exported_graph}
 use Rattle.gateway.proofs.GatewayScene.TheLaws as exported-answer
 use Rattle.gateway.proofs.gateway_scene.Symbol.{name as gateway_scene, code as gateway_scene_code}
 use Rattle.owner.specs.Machine.{Ran}
@@ -29,7 +29,7 @@ scene_code plain = read_scene_code
 scene_code exported = gateway_scene_code
 
 abbrev pub exported_scene : SceneAnswer → GatewayScene
-exported_scene a = record { answer = exported_answer a.answer; count = a.count; shapes = a.shapes }
+exported_scene a = record { answer = exported_graph a.graph; count = a.count; shapes = a.shapes }
 
 -- the machine's value of an answer
 abbrev pub scene_value : Variant → SceneAnswer → Val

@@ -8,17 +8,17 @@ use prog.Routine.{Env, Routine}
 use prog.Wired.{Code}
 use denote.Array.{array_val}
 use borrow.Fn.World.{World}
-use Rattle.rules.specs.declared.Answer.{Answer}
-use Rattle.rules.specs.Answer.{Answered}
-use Rattle.rules.proofs.Answer.TheLaws as lent-answer
 use Rattle.position.specs.declared.PositionSyntax.{PositionSyntax}
 use Rattle.position.proofs.PositionSyntax.TheLaws as shape
+use Rattle.validation.specs.declared.GraphAnswer.{GraphAnswer}
+use Rattle.validation.specs.Validation.{GraphAnswered}
+use Rattle.validation.proofs.GraphAnswer.TheLaws as lent-answer
 use Rattle.update.specs.Update.{update_reading}
 use Rattle.update.proofs.UpdateAnswer.TheLaws as value-answer
 use Rattle.update.proofs.graph_update.Symbol.{name as value_update, code as value_code}
 use Rattle.lent.proofs.graph_update.Symbol.{name as lent_update, code as lent_code}
-use Rattle.exported.specs.Exported.{exported as exported_answer}
-use Rattle.exported.proofs.GatewayAnswer.TheLaws as exported-answer
+use Rattle.exported.specs.Exported.{exported_graph}
+use Rattle.exported.proofs.GatewayGraphAnswer.TheLaws as exported-answer
 use Rattle.gateway.proofs.gateway_update.Symbol.{name as exported_update, code as exported_code}
 use Rattle.owner.specs.Cells.{Cells, refilled, Slice, slice}
 use Rattle.owner.specs.Machine.{Ran}
@@ -83,10 +83,10 @@ OthersKept by_value h ss = drop h.count ss ≡ drop h.count h.shapes
 OthersKept (lent v) d ss = Unit {0}
 
 -- the machine's value of what is returned: of an answer, and by value of the shapes with it
-abbrev pub update_value : Form → Answer → List PositionSyntax → Val
-update_value by_value a ss = value-answer.lowered (record { answer = a; shapes = ss })
+abbrev pub update_value : Form → GraphAnswer → List PositionSyntax → Val
+update_value by_value a ss = value-answer.lowered (record { graph = a; shapes = ss })
 update_value (lent plain) a ss = lent-answer.lowered a
-update_value (lent exported) a ss = exported-answer.lowered (exported_answer a)
+update_value (lent exported) a ss = exported-answer.lowered (exported_graph a)
 
 -- what is handed, with these shapes in its cells, beside F
 abbrev pub HandedInCells : (w : World) (f : Form) → Handed f → List PositionSyntax → SProp w.𝓤 → SProp w.𝓤
@@ -97,7 +97,7 @@ HandedInCells w (lent v) d ss F = sep w.𝓤 (Shapes w (refilled d ss)) F
 -- were, the words and the lent shapes as they were left, no more and no fewer, and F as it was. Answer, shapes and words are
 -- as the update's reading has them. By value the shapes are those of what is returned.
 pub record Updated (w : World) (γ : Env) (f : Form) (p : Sent) (h : Handed f) (σ : Memory) (F : SProp w.𝓤) : Type 1 where
-  pub answer : Answer
+  pub answer : GraphAnswer
   pub words : List ℕ
   pub shapes : List PositionSyntax
   pub memory : Memory
@@ -107,6 +107,6 @@ pub record Updated (w : World) (γ : Env) (f : Form) (p : Sent) (h : Handed f) (
   pub shapes_fit : AllFit shapes
   pub holds : ◌⊨◌ w memory (SentInCells w p words (HandedInCells w f h shapes F))
   pub answered :
-      Answered (update_reading (input_sent p) p.offset (count_of f h) (used f h (all_of f h))) (used f h (all_of f h)) p.recording p.words.held
+      GraphAnswered (update_reading (input_sent p) p.offset (count_of f h) (used f h (all_of f h))) (used f h (all_of f h)) p.recording p.words.held
       answer (used f h shapes) words
   pub others_kept : OthersKept f h shapes

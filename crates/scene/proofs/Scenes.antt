@@ -15,16 +15,16 @@ use Rattle.rules.specs.Leaf as leaf
 use Rattle.rules.specs.Rule.{Rule}
 use Rattle.rules.specs.Derived.{drc_count}
 use Rattle.rules.specs.Reading.{Reading}
-use Rattle.rules.specs.Answer.{Answered}
 use Rattle.parser.specs.declared.Parser.{Parser}
 use Rattle.parser.specs.Met.{Met, giving}
 use Rattle.parser.proofs.Laws.{first}
 use Rattle.position.specs.declared.PositionSyntax.{PositionSyntax}
 use Rattle.position.specs.Shape.{default}
 use Rattle.position.specs.Formed.{Shaped}
+use Rattle.validation.specs.Validation.{largest_rank, GraphAnswered}
 use Rattle.scene.specs.declared.SceneAnswer.{SceneAnswer}
 use Rattle.positions.specs.Positions.{positions}
-use Rattle.scene.specs.Scene.{defaults, scene_fields, declared, SceneAnswered}
+use Rattle.scene.specs.Scene.{defaults, scene_fields, scene_graph, declared, SceneAnswered, TookScene, TookGraph}
 
 take_replicate : {A : Type 0} (n m : ℕ) (a : A) → n ≤ m → take n (replicate m a) ≡ replicate n a
 take_replicate zero m a h = refl
@@ -59,10 +59,10 @@ defaults_length = length-replicate 63 default
 
 -- an answer with the shapes of as many positions as it says
 pub scene_answered : {x : Reading (List PositionSyntax)} {rec : Bool} {ws vs : List ℕ} {r : SceneAnswer} → length r.shapes ≡ 63 → r.count ≤ 63 →
-    Answered x [] rec ws r.answer (take r.count r.shapes) vs → drop r.count r.shapes ≡ drop r.count defaults → SceneAnswered x rec ws r vs
+    GraphAnswered x [] rec ws r.graph (take r.count r.shapes) vs → drop r.count r.shapes ≡ drop r.count defaults → SceneAnswered x rec ws r vs
 scene_answered {x} {rec} {ws} {vs} {r} long most a others = record {
   answered = a;
-  count = sym (length-take-le r.count r.shapes (omega arith)) ∙ ap length a.value;
+  count = sym (length-take-le r.count r.shapes (omega arith)) ∙ ap length a.answered.value;
   others = others ∙ defaults_rest r.count most;
 }
 
@@ -87,8 +87,8 @@ module _ {x : std.Result ℕ Reason} {n : ℕ} (e : x ≡ Ok n) (small : IfOk x 
     others_default after h = rw d at h ∙ defaults_rest n few
 
 -- the shapes that positions leave in what they were lent, if they were read, and if the reading ended
-module _ {r : Rule (List PositionSyntax)} {p q : Parser} (a : List PositionSyntax) (y : std.Result (Unit {0}) Reason) (m : Met r p (giving a y) q) where
-  pub left_read : {b : List PositionSyntax} {u : Unit {0}} → y ≡ Ok u → b ≡ a → Met r p (Ok b) q
+module _ {r : Rule (List PositionSyntax)} {p q : Parser} {B : Type 0} (a : List PositionSyntax) (y : std.Result B Reason) (m : Met r p (giving a y) q) where
+  pub left_read : {b : List PositionSyntax} {u : B} → y ≡ Ok u → b ≡ a → Met r p (Ok b) q
   left_read e d = rw d (rw e at m)
 
   pub left_ended : {z : Reason} → y ≡ Err z → Met r p (Err z) q
@@ -102,5 +102,18 @@ module _ {x : std.Result ℕ Reason} where
   pub declared_ended : {z : Reason} (shapes : List PositionSyntax) → x ≡ Err z → declared shapes x ≡ Err z
   declared_ended shapes e = rw e
 
-  pub counted : (P : ℕ → Type 0) {n : ℕ} → x ≡ Ok n → IfOk x P → P n
+  counted : (P : ℕ → Type 0) {n : ℕ} → x ≡ Ok n → IfOk x P → P n
   counted P e h = rw e at h
+
+-- the fields of a scene, of `x` positions, and then its validation, of which `y` is the largest rank
+pub graph_took : {p q : Parser} {shapes : List PositionSyntax} {x y : std.Result ℕ Reason} {n d : ℕ} → TookScene scene_fields p x shapes q → x ≡ Ok n →
+    Met scene_graph p (giving (take n shapes) y) q → y ≡ Ok d → IfOk y (λ k. k ≡ largest_rank (take n shapes)) →
+    TookGraph scene_graph p (Ok (record { count = n; deepest = d })) shapes q
+graph_took {shapes = shapes} {y = y} m e v f k = record {
+  took = record {
+    met = left_read (take _ shapes) y v f refl;
+    most = counted (λ n. n ≤ 63) e m.most;
+    others = counted (λ n. drop n shapes ≡ replicate (63 - n) default) e m.others;
+  };
+  deepest = counted (λ d. d ≡ largest_rank (take _ shapes)) f k;
+}

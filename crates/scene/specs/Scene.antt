@@ -6,12 +6,13 @@ use Rattle.rules.specs.Leaf as leaf
 use Rattle.rules.specs.Rule.{Rule, ◌>>=◌}
 use Rattle.rules.specs.Reading.{Reading, Input}
 use Rattle.rules.specs.Derived.{drc_count}
-use Rattle.rules.specs.Answer.{entry_reading, value_or, Answered}
+use Rattle.rules.specs.Answer.{entry_reading, value_or}
 use Rattle.parser.specs.declared.Parser.{Parser}
 use Rattle.parser.specs.Met.{Met}
 use Rattle.position.specs.declared.PositionSyntax.{PositionSyntax}
 use Rattle.position.specs.Shape.{default}
-use Rattle.validation.specs.Validation.{if_valid}
+use Rattle.validation.specs.Validation.{largest_rank, if_valid, GraphAnswered}
+use Rattle.scene.specs.declared.SceneGraph.{SceneGraph}
 use Rattle.scene.specs.declared.SceneAnswer.{SceneAnswer}
 use Rattle.positions.specs.Positions.{positions}
 
@@ -33,11 +34,11 @@ scene_reading i offset = entry_reading i 0 offset scene_graph
 
 -- The answer: the shapes of positions 1 to the count, none unless it was read, and the default after them.
 pub record SceneAnswered (x : Reading (List PositionSyntax)) (rec : Bool) (ws : List ℕ) (r : SceneAnswer) (vs : List ℕ) : Type 0 where
-  pub answered : Answered x [] rec ws r.answer (take r.count r.shapes) vs
+  pub answered : GraphAnswered x [] rec ws r.graph (take r.count r.shapes) vs
   pub count : r.count ≡ length (value_or [] x.result)
   pub others : drop r.count r.shapes ≡ replicate (63 - r.count) default
 
--- what the functions inside it promise: the shapes of the rule are the first of 63, and the others are the default
+-- what the functions inside it promise: the shapes of the rule are the first of 63, and the others are the default; ..
 abbrev pub declared : List PositionSyntax → Result ℕ Reason → Result (List PositionSyntax) Reason
 declared shapes (Ok n) = Ok (take n shapes)
 declared shapes (Err e) = Err e
@@ -46,3 +47,12 @@ pub record TookScene (r : Rule (List PositionSyntax)) (p : Parser) (x : Result �
   pub met : Met r p (declared shapes x) q
   pub most : IfOk x (λ n. n ≤ 63)
   pub others : IfOk x (λ n. drop n shapes ≡ replicate (63 - n) default)
+
+-- .. and with validation the largest rank of those shapes
+abbrev pub count_of : Result SceneGraph Reason → Result ℕ Reason
+count_of (Ok g) = Ok g.count
+count_of (Err e) = Err e
+
+pub record TookGraph (r : Rule (List PositionSyntax)) (p : Parser) (x : Result SceneGraph Reason) (shapes : List PositionSyntax) (q : Parser) : Type 0 where
+  pub took : TookScene r p (count_of x) shapes q
+  pub deepest : IfOk x (λ g. g.deepest ≡ largest_rank (take g.count shapes))

@@ -100,7 +100,7 @@ fn print(rt: &impl Print, answer: Answer, words: &[u64]) -> io::Result<()> {
 // Reads what is asked for.
 fn read(request: Request, file: &[u8], words: &mut [u64]) -> Result<Answer, Failure> {
     match request {
-        Request::Scene(bit) => Ok(scene::read_scene(file, bit, true, words).answer),
+        Request::Scene(bit) => Ok(scene::read_scene(file, bit, true, words).graph.answer),
         Request::Metadata(bit) => Ok(metadata::read_metadata(file, bit, true, words)),
         Request::Part(k, bit) => Ok(part_fields::read_part(file, k, bit, words)?),
     }

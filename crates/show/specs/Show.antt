@@ -1,4 +1,4 @@
--- What `scene-show` prints: a line for each part, and then one for each position.
+-- What `scene-show` prints: a line for each part, then one for each position, and one for the largest rank in these.
 use Rattle.std.specs.Prelude.{ℕ, ◌+◌, ◌-◌, ◌≤◌, ◌≡◌, List, [], ◌∷◌, ◌++◌, eqb, length}
 use Rattle.rules.specs.declared.Answer.{Answer}
 use Rattle.rules.specs.declared.Outcome.{Outcome}
@@ -11,16 +11,16 @@ use Rattle.text.specs.declared.TextAnswer.{TextAnswer}
 use Rattle.text.specs.Text.{line, Put}
 use Rattle.show_header.specs.Header.{part_count, file_question}
 use Rattle.show_parts.specs.Parts.{packet, packets}
-use Rattle.show_lines.specs.Lines.{part_line, all_positions}
+use Rattle.show_lines.specs.Lines.{part_line, shapes_text}
 
 -- the lines of the parts from k on
 unfoldable pub part_lines : ℕ → List Given → List ℕ
 part_lines k [] = []
-part_lines k (g ∷ gs) = part_line k g.answer ++ part_lines (k + 1) gs
+part_lines k (g ∷ gs) = part_line k g.graph.answer ++ part_lines (k + 1) gs
 
--- packets on the shapes s, the first of them being part k: their lines, and those of the positions after them
+-- packets on the shapes s, the first of them being part k: their lines, and what is printed of the shapes after them
 unfoldable pub updates_text : ℕ → List Packet → List PositionSyntax → List ℕ
-updates_text k ps s = part_lines k (book_answers ps s) ++ all_positions (book_shapes ps s)
+updates_text k ps s = part_lines k (book_answers ps s) ++ shapes_text (book_shapes ps s)
 
 -- Part 0 is a scene, the others are updates. If part 0 is refused its line is the only one.
 unfoldable pub rest_text : List ℕ → Answer → List PositionSyntax → List ℕ
@@ -29,7 +29,7 @@ rest_text file scene s = pick (is_read scene.outcome) (updates_text 1 (packets f
 unfoldable pub parts_text : List ℕ → List ℕ
 parts_text file =
     let scene = scene_step (packet file 0) [] in
-    part_line 0 scene.told.answer ++ rest_text file scene.told.answer scene.left
+    part_line 0 scene.told.graph.answer ++ rest_text file scene.told.graph.answer scene.left
 
 unfoldable pub show_text : List ℕ → List ℕ
 show_text file = pick (eqb (file_question file) 0) (parts_text file) (line (("file refused ", file_question file) ∷ []))

@@ -15,7 +15,7 @@ use text::{TextAnswer, Writer};
 // The bytes that are lent for the text: enough for every file.
 pub const TEXT: usize = 32768;
 
-// Puts a line for each update, every one of which finds the shapes that the one before left, and then the positions.
+// Puts a line for each update, every one of which finds the shapes that the one before left, and then what is printed of the shapes.
 fn put_updates(writer: &mut Writer<'_>, file: &ShowFile<'_>, shapes: &mut [PositionSyntax])
     requires few { length shapes.old ≤ 63 }
     requires room { Fits
@@ -26,8 +26,8 @@ fn put_updates(writer: &mut Writer<'_>, file: &ShowFile<'_>, shapes: &mut [Posit
         writer.old writer.new }
 {
     for k in 1..file.part_count() {
-        let answer = show_parts::show_update(file, k, shapes);
-        show_lines::put_part(writer, k, answer);
+        let graph = show_parts::show_update(file, k, shapes);
+        show_lines::put_part(writer, k, graph.answer);
     }
     show_lines::put_shapes(writer, shapes);
 }
@@ -38,8 +38,8 @@ fn put_parts(writer: &mut Writer<'_>, file: &ShowFile<'_>)
     ensures { Wrote (parts_text file.now.bytes.now) writer.old writer.new }
 {
     let mut scene = show_parts::show_scene(file);
-    show_lines::put_part(writer, 0, scene.answer);
-    if scene.answer.outcome.is_read() {
+    show_lines::put_part(writer, 0, scene.graph.answer);
+    if scene.graph.answer.outcome.is_read() {
         let count = scene.count;
         put_updates(writer, file, &mut scene.shapes[..count]);
     }

@@ -8,10 +8,10 @@ use Rattle.rules.specs.declared.Outcome.{Outcome}
 use Rattle.rules.specs.declared.Outcome.TheVariants.{Read, Refused, Stopped}
 use Rattle.position.specs.declared.PositionSyntax.{PositionSyntax}
 use Rattle.ranks.specs.Rank.{parent_of, rank_of}
-use Rattle.validation.specs.Validation.{parents}
+use Rattle.validation.specs.Validation.{parents, largest_rank}
 use Rattle.text.specs.Text.{ascii, line}
 use Rattle.text.proofs.Lines.{widest, line_most}
-use Rattle.show_lines.specs.Lines.{ending, part_line, position_line, position_lines, all_positions}
+use Rattle.show_lines.specs.Lines.{ending, part_line, position_line, position_lines, deepest_line, shapes_text}
 
 -- No line is longer than 84 bytes: of a part, ..
 ending_most : (k : ℕ) (o : Outcome) (position fields : ℕ) → length (line (("part ", k) ∷ ending o position fields)) ≤ 84
@@ -39,10 +39,18 @@ positions_most ps (suc n) i =
     let c = positions_most ps n (i + 1) in
     omega arith
 
-pub all_most : (shapes : List PositionSyntax) → length (all_positions shapes) ≤ 84 * length shapes
-all_most shapes =
-    let a = positions_most (parents shapes) (length (parents shapes)) 0 in
+-- .. of the largest rank, ..
+deepest_most : (d : ℕ) → length (deepest_line d) ≤ 84
+unfolding deepest_line widest ascii
+deepest_most d = let most = line_most (("deepest ", d) ∷ []) in omega arith
+
+pub shapes_most : (shapes : List PositionSyntax) → length (shapes_text shapes) ≤ 84 * length shapes + 84
+shapes_most shapes =
+    let ps = parents shapes in
+    let a = positions_most ps (length ps) 0 in
     let b = length-map shapes (λ (sh : PositionSyntax). sh.parent) in
+    let c = deepest_most (largest_rank shapes) in
+    let d = length-append (position_lines ps (length ps) 0) (deepest_line (largest_rank shapes)) in
     omega arith
 
 -- .. and of a refused file.

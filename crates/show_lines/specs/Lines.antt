@@ -6,7 +6,7 @@ use Rattle.rules.specs.declared.Outcome.{Outcome}
 use Rattle.rules.specs.declared.Outcome.TheVariants.{Read, Refused, Stopped}
 use Rattle.position.specs.declared.PositionSyntax.{PositionSyntax}
 use Rattle.ranks.specs.Rank.{parent_of, rank_of}
-use Rattle.validation.specs.Validation.{parents}
+use Rattle.validation.specs.Validation.{parents, largest_rank}
 use Rattle.text.specs.Text.{line}
 
 -- how a part ended
@@ -26,5 +26,9 @@ unfoldable pub position_lines : List ℕ → ℕ → ℕ → List ℕ
 position_lines ps zero i = []
 position_lines ps (suc n) i = position_line (i + 1) (parent_of ps (i + 1)) (rank_of ps (i + 1)) ++ position_lines ps n (i + 1)
 
-abbrev pub all_positions : List PositionSyntax → List ℕ
-all_positions shapes = position_lines (parents shapes) (length (parents shapes)) 0
+unfoldable pub deepest_line : ℕ → List ℕ
+deepest_line d = line (("deepest ", d) ∷ [])
+
+-- what is printed of shapes: the lines of their positions, and then the largest rank in these
+abbrev pub shapes_text : List PositionSyntax → List ℕ
+shapes_text shapes = position_lines (parents shapes) (length (parents shapes)) 0 ++ deepest_line (largest_rank shapes)

@@ -3,16 +3,16 @@
 #![tactic(auto)]
 
 ghost use Rattle.std.specs.Prelude.{◌<◌, [], false};
-ghost use Rattle.rules.specs.Answer.{Answered};
+ghost use Rattle.validation.specs.Validation.{GraphAnswered};
 ghost use Rattle.scene.specs.Scene.{SceneAnswered};
 ghost use Rattle.book.specs.Book.{packet_of, book_scene, book_reading};
 ghost use Rattle.show_header.specs.Header.{part_count, part_of};
 ghost use Rattle.show_parts.specs.Parts.{packet};
 
 use position::PositionSyntax;
-use rules::Answer;
 use scene::SceneAnswer;
 use show_header::ShowFile;
+use validation::GraphAnswer;
 
 // Part 0, a scene, from its bit `offset` on.
 pub fn scene_part(
@@ -36,9 +36,9 @@ pub fn update_part(
     recording: bool,
     words: &mut [u64],
     shapes: &mut [PositionSyntax],
-) -> Answer
+) -> GraphAnswer
     requires { k < part_count file.now.bytes.now }
-    ensures { Answered
+    ensures { GraphAnswered
         (book_reading (packet_of (part_of file.now.bytes.now k) offset recording words.old) shapes.old)
         shapes.old recording words.old result shapes.new words.new }
 {
@@ -53,9 +53,9 @@ pub fn show_scene(file: &ShowFile<'_>) -> SceneAnswer
 }
 
 // Part `k`, an update, as the show reads it.
-pub fn show_update(file: &ShowFile<'_>, k: usize, shapes: &mut [PositionSyntax]) -> Answer
+pub fn show_update(file: &ShowFile<'_>, k: usize, shapes: &mut [PositionSyntax]) -> GraphAnswer
     requires { k < part_count file.now.bytes.now }
-    ensures { Answered (book_reading (packet file.now.bytes.now k) shapes.old) shapes.old false [] result shapes.new [] }
+    ensures { GraphAnswered (book_reading (packet file.now.bytes.now k) shapes.old) shapes.old false [] result shapes.new [] }
 {
     update_part(file, k, 0, false, &mut [], shapes)
 }

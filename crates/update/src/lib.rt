@@ -8,12 +8,12 @@ ghost use Rattle.rules.specs.Answer.{input_of};
 ghost use Rattle.update.specs.Update.{update_reading, UpdateAnswered};
 
 use position::PositionSyntax;
-use rules::Answer;
+use validation::GraphAnswer;
 
 // What an update answers: the shapes, which are as they came unless it was read.
 #[derive(Clone, Copy)]
 pub struct UpdateAnswer {
-    pub answer: Answer,
+    pub graph: GraphAnswer,
     pub shapes: [PositionSyntax; 63],
 }
 
@@ -31,12 +31,12 @@ pub fn graph_update(
         count shapes recording words.old result words.new }
 {
     let mut next = shapes;
-    let answer = undecided::read_update(bytes, offset, recording, words, &mut next, count);
-    if answer.outcome.is_read() {
+    let graph = undecided::read_update(bytes, offset, recording, words, &mut next, count);
+    if graph.answer.outcome.is_read() {
         return UpdateAnswer {
-            answer,
+            graph,
             shapes: next,
         };
     }
-    UpdateAnswer { answer, shapes }
+    UpdateAnswer { graph, shapes }
 }

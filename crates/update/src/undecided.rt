@@ -1,17 +1,19 @@
 // The reading of an update before it is decided whether it counts, for `graph_update` here and for the crate `lent` alone. Unless
 // the update was read, the first `count` shapes that `read_update` leaves are free: nothing is promised of them. Whether they
 // count is decided by its two callers.
-ghost use Rattle.std.specs.Prelude.{◌≡◌, ℕ, ◌≤◌, ◌<◌, length, get_or, take};
+ghost use Rattle.std.specs.Prelude.{◌≡◌, ℕ, ◌≤◌, ◌<◌, length, get_or, take, IfOk};
 ghost use Rattle.rules.specs.Answer.{input_of, entry_then};
 ghost use Rattle.parser.specs.Met.{Met, giving};
 ghost use Rattle.rules.specs.Reason.{IsRefusal, asked};
 ghost use Rattle.position.specs.Shape.{default};
 ghost use Rattle.position.specs.Formed.{Shaped};
+ghost use Rattle.validation.specs.Validation.{largest_rank};
 ghost use Rattle.update.specs.Update.{all_shaped, graph_update, shapes_question, update_reading, Entered, UpdateGiven};
 
 use parser::{Parser, tri};
 use position::PositionSyntax;
-use rules::{Answer, Reason};
+use rules::Reason;
+use validation::GraphAnswer;
 
 // Whether no shape has a precision above 24.
 fn all_shaped(shapes: &[PositionSyntax]) -> bool
@@ -39,11 +41,12 @@ fn question(shapes: &[PositionSyntax; 63], count: usize) -> Result<(), Reason>
     Err(Reason::BadShapes)
 }
 
-// The positions of an update, whose parents are validated after the last of them.
-fn updated(parser: &mut Parser<'_>, shapes: &mut [PositionSyntax]) -> Result<(), Reason>
+// The positions of an update, whose parents are validated after the last of them; it gives their largest rank.
+fn updated(parser: &mut Parser<'_>, shapes: &mut [PositionSyntax]) -> Result<usize, Reason>
     requires shapes_bound { length shapes.old ≤ 63 }
     requires by_index { (i : ℕ) → i < length shapes.old → Shaped (get_or shapes.old i default) }
-    ensures { Met (graph_update shapes.old) parser.old (giving shapes.new result) parser.new }
+    ensures met { Met (graph_update shapes.old) parser.old (giving shapes.new result) parser.new }
+    ensures deepest { IfOk result (λ d. d ≡ largest_rank shapes.new) }
 {
     tri!(positions::positions(parser, shapes, false));
     validation::validated(shapes)
@@ -55,7 +58,7 @@ fn entered(
     offset: usize,
     shapes: &mut [PositionSyntax; 63],
     count: usize,
-) -> Result<(), Reason>
+) -> Result<usize, Reason>
     ensures { Entered
         (entry_then (length parser.old.bytes.now) (shapes_question count (take count shapes.old)) offset
         (graph_update (take count shapes.old)))
@@ -74,12 +77,12 @@ pub fn read_update(
     words: &mut [u64],
     shapes: &mut [PositionSyntax; 63],
     count: usize,
-) -> Answer
+) -> GraphAnswer
     ensures { UpdateGiven
         (update_reading (input_of bytes.now recording words.old) offset count (take count shapes.old))
         count shapes.old recording words.old result shapes.new words.new }
 {
     let mut parser = Parser::new(bytes, words, recording, 0);
     let ended = entered(&mut parser, offset, shapes, count);
-    parser.answer(ended)
+    validation::graph_ended(&parser, ended)
 }

@@ -1,4 +1,5 @@
 pub mod Asked
+pub mod Answers
 pub mod Lists
 pub mod Refusals
 pub mod Linked

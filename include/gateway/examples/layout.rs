@@ -1,6 +1,6 @@
 //! Prints the types that cross and their fields, each with its size and its offset, and the greatest
 //! sizes, to be compared with those of the header.
-use gateway::raw::{GatewayAnswer, GatewayScene, PositionSyntax};
+use gateway::raw::{GatewayAnswer, GatewayGraphAnswer, GatewayScene, PositionSyntax};
 use gateway::{FIELD_WORDS, MAX_BYTES, MAX_FIELDS, MAX_NAME, MAX_POSITIONS, MAX_PRECISION};
 use std::mem::{offset_of, size_of};
 
@@ -34,6 +34,13 @@ fn main() {
         number,
         position,
         counted
+    });
+    print_layout!(GatewayGraphAnswer {
+        outcome,
+        number,
+        position,
+        counted,
+        deepest
     });
     print_layout!(GatewayScene {
         answer,

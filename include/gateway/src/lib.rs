@@ -8,8 +8,11 @@
 //!
 //! let mut scene = read_scene(&[0x0a, 0x00, 0x80, 0x80, 0x00, 0x80], 0, false, &mut []);
 //! assert_eq!(scene.answer().outcome, Outcome::Read);
-//! let answer = graph_update(&[0xc1, 0x00], 0, false, &mut [], scene.shapes_mut());
-//! assert_eq!(answer.outcome, Outcome::Refused(9));
+//! assert_eq!(scene.answer().deepest, 2);
+//! let circle = graph_update(&[0xc1, 0x00], 0, false, &mut [], scene.shapes_mut());
+//! assert_eq!((circle.outcome, circle.deepest), (Outcome::Refused(9), 0));
+//! let freed = graph_update(&[0x70], 0, false, &mut [], scene.shapes_mut());
+//! assert_eq!((freed.outcome, freed.deepest), (Outcome::Read, 1));
 //! ```
 #![no_std]
 
@@ -38,7 +41,19 @@ pub enum Outcome {
     Stopped(u64),
 }
 
-/// What a call answers.
+impl Outcome {
+    /// The outcome of these words of an answer.
+    fn new(outcome: u64, number: u64) -> Self {
+        match outcome {
+            0 => Self::Read,
+            1 => Self::Refused(number),
+            2 => Self::Stopped(number),
+            other => unreachable!("outcome {other}"),
+        }
+    }
+}
+
+/// What a position, metadata or a name answers.
 #[derive(Clone, Copy, Debug, PartialEq, Eq)]
 pub struct Answer {
     pub outcome: Outcome,
@@ -50,16 +65,33 @@ pub struct Answer {
 
 impl From<raw::GatewayAnswer> for Answer {
     fn from(answer: raw::GatewayAnswer) -> Self {
-        let outcome = match answer.outcome {
-            0 => Outcome::Read,
-            1 => Outcome::Refused(answer.number),
-            2 => Outcome::Stopped(answer.number),
-            other => unreachable!("outcome {other}"),
-        };
         Self {
-            outcome,
+            outcome: Outcome::new(answer.outcome, answer.number),
             position: answer.position,
             counted: answer.counted,
+        }
+    }
+}
+
+/// What a scene, an update or a validation answers.
+#[derive(Clone, Copy, Debug, PartialEq, Eq)]
+pub struct GraphAnswer {
+    pub outcome: Outcome,
+    /// As in [`Answer`].
+    pub position: usize,
+    /// The fields counted, recorded or not.
+    pub counted: usize,
+    /// The largest rank of the shapes, 0 unless read and where there are none.
+    pub deepest: usize,
+}
+
+impl From<raw::GatewayGraphAnswer> for GraphAnswer {
+    fn from(answer: raw::GatewayGraphAnswer) -> Self {
+        Self {
+            outcome: Outcome::new(answer.outcome, answer.number),
+            position: answer.position,
+            counted: answer.counted,
+            deepest: answer.deepest,
         }
     }
 }
@@ -69,7 +101,7 @@ impl From<raw::GatewayAnswer> for Answer {
 pub struct Scene(raw::GatewayScene);
 
 impl Scene {
-    pub fn answer(&self) -> Answer {
+    pub fn answer(&self) -> GraphAnswer {
         self.0.answer.into()
     }
 
@@ -113,14 +145,15 @@ pub fn read_scene(bytes: &[u8], offset: usize, recording: bool, words: &mut [u64
     Scene(reading!(gateway_scene(bytes, offset, recording, words)))
 }
 
-/// Reads an update of these shapes, all of them, and changes them only if it is read.
+/// Reads an update of these shapes, all of them, and changes them only if it is read. The largest
+/// rank is that of the shapes that it leaves, 0 if it is refused.
 pub fn graph_update(
     bytes: &[u8],
     offset: usize,
     recording: bool,
     words: &mut [u64],
     shapes: &mut [PositionSyntax],
-) -> Answer {
+) -> GraphAnswer {
     let (first, count) = (shapes.as_mut_ptr(), shapes.len());
     reading!(gateway_update(bytes, offset, recording, words; first, count)).into()
 }
@@ -142,8 +175,8 @@ pub fn read_metadata(bytes: &[u8], offset: usize, recording: bool, words: &mut [
     reading!(gateway_metadata(bytes, offset, recording, words)).into()
 }
 
-/// Whether all positions have ranks; the answer gives back the position `at`.
-pub fn validate_graph(shapes: &[PositionSyntax], at: usize) -> Answer {
+/// Whether all positions have ranks, and the largest; the answer gives back the position `at`.
+pub fn validate_graph(shapes: &[PositionSyntax], at: usize) -> GraphAnswer {
     // SAFETY: as for a reading.
     unsafe { raw::gateway_validation(shapes.as_ptr(), shapes.len(), at) }.into()
 }

@@ -25,9 +25,19 @@ pub struct GatewayAnswer {
 }
 
 #[repr(C)]
+#[derive(Clone, Copy, Debug, PartialEq, Eq)]
+pub struct GatewayGraphAnswer {
+    pub outcome: u64,
+    pub number: u64,
+    pub position: usize,
+    pub counted: usize,
+    pub deepest: usize,
+}
+
+#[repr(C)]
 #[derive(Clone, Debug, PartialEq, Eq)]
 pub struct GatewayScene {
-    pub answer: GatewayAnswer,
+    pub answer: GatewayGraphAnswer,
     pub count: usize,
     pub shapes: [PositionSyntax; MAX_POSITIONS],
 }
@@ -51,7 +61,7 @@ unsafe extern "C" {
         words_len: usize,
         shapes: *mut PositionSyntax,
         shapes_len: usize,
-    ) -> GatewayAnswer;
+    ) -> GatewayGraphAnswer;
 
     pub fn gateway_position(
         bytes: *const u8,
@@ -77,7 +87,7 @@ unsafe extern "C" {
         shapes: *const PositionSyntax,
         shapes_len: usize,
         at: usize,
-    ) -> GatewayAnswer;
+    ) -> GatewayGraphAnswer;
 
     pub fn gateway_name(word: u64, bytes: *mut u8, bytes_len: usize) -> GatewayAnswer;
 }

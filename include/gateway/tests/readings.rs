@@ -2,8 +2,9 @@
 use gateway::FieldValue::Flag;
 use gateway::Outcome::{self, Read, Refused, Stopped};
 use gateway::{
-    Answer, FIELD_WORDS, Field, MAX_NAME, MAX_POSITIONS, MAX_PRECISION, PositionSyntax, Scene,
-    fields, graph_update, name_text, read_metadata, read_position, read_scene, validate_graph,
+    Answer, FIELD_WORDS, Field, GraphAnswer, MAX_NAME, MAX_POSITIONS, MAX_PRECISION,
+    PositionSyntax, Scene, fields, graph_update, name_text, read_metadata, read_position,
+    read_scene, validate_graph,
 };
 
 /// Two positions with dynamic parents, the second hung on the first.
@@ -37,11 +38,21 @@ fn ends(outcome: Outcome, position: usize, counted: usize) -> Answer {
     }
 }
 
+/// The end of a graph whose largest rank this is.
+fn ranked(outcome: Outcome, position: usize, counted: usize, deepest: usize) -> GraphAnswer {
+    GraphAnswer {
+        outcome,
+        position,
+        counted,
+        deepest,
+    }
+}
+
 fn scene(bytes: &[u8]) -> Scene {
     read_scene(bytes, 0, false, &mut [])
 }
 
-fn update(bytes: &[u8], shapes: &mut [PositionSyntax]) -> Answer {
+fn update(bytes: &[u8], shapes: &mut [PositionSyntax]) -> GraphAnswer {
     graph_update(bytes, 0, false, &mut [], shapes)
 }
 
@@ -57,17 +68,25 @@ fn on(parent: usize) -> PositionSyntax {
 #[test]
 fn a_scene_gives_its_shapes() {
     let scene = scene(&SCENE);
-    assert_eq!(scene.answer(), ends(Read, 48, 20));
+    assert_eq!(scene.answer(), ranked(Read, 48, 20, 2));
     assert_eq!(scene.shapes(), [on(0), on(1)]);
     assert_eq!(scene.beyond(), [PositionSyntax::default(); 61]);
 }
 
 #[test]
+fn a_scene_of_no_positions_is_read() {
+    let scene = scene(&[0x00]);
+    assert_eq!(scene.answer(), ranked(Read, 6, 1, 0));
+    assert_eq!(scene.shapes(), []);
+}
+
+#[test]
 fn a_refused_scene_gives_none() {
     for (bytes, answer) in [
-        ([].as_slice(), ends(Refused(3), 0, 0)),
-        (&[0x04], ends(Refused(6), 6, 1)),
-        (&[0x04, 0x00, 0x04, 0x00], ends(Refused(8), 30, 11)),
+        ([].as_slice(), ranked(Refused(3), 0, 0, 0)),
+        (&[0x04], ranked(Refused(6), 6, 1, 0)),
+        (&[0x04, 0x00, 0x04, 0x00], ranked(Refused(8), 30, 11, 0)),
+        (&[0x04, 0x00, 0x02, 0x00], ranked(Refused(9), 30, 11, 0)),
     ] {
         let scene = scene(bytes);
         assert_eq!(scene.answer(), answer);
@@ -80,11 +99,14 @@ fn a_refused_scene_gives_none() {
 fn a_refused_update_leaves_every_shape() {
     let mut scene = scene(&SCENE);
     let shapes = scene.shapes_mut();
-    assert_eq!(update(&FIRST_ON_SECOND, shapes), ends(Refused(9), 13, 8));
+    assert_eq!(
+        update(&FIRST_ON_SECOND, shapes),
+        ranked(Refused(9), 13, 8, 0)
+    );
     assert_eq!(shapes, [on(0), on(1)]);
-    assert_eq!(update(&SECOND_FREED, shapes), ends(Read, 7, 7));
+    assert_eq!(update(&SECOND_FREED, shapes), ranked(Read, 7, 7, 1));
     assert_eq!(shapes, [on(0), on(0)]);
-    assert_eq!(update(&FIRST_ON_SECOND, shapes), ends(Read, 13, 8));
+    assert_eq!(update(&FIRST_ON_SECOND, shapes), ranked(Read, 13, 8, 2));
     assert_eq!(shapes, [on(2), on(0)]);
 }
 
@@ -92,25 +114,25 @@ fn a_refused_update_leaves_every_shape() {
 fn an_update_begins_at_its_offset() {
     let mut shapes = [on(0), on(1)];
     let answer = graph_update(&[0x03, 0x80], 5, false, &mut [], &mut shapes);
-    assert_eq!(answer, ends(Read, 12, 7));
+    assert_eq!(answer, ranked(Read, 12, 7, 1));
     assert_eq!(shapes, [on(0), on(0)]);
 }
 
 #[test]
 fn more_than_63_shapes_are_refused() {
     let mut shapes = [STRANGE; MAX_POSITIONS + 1];
-    assert_eq!(update(&[0; 8], &mut shapes), ends(Refused(2), 0, 0));
+    assert_eq!(update(&[0; 8], &mut shapes), ranked(Refused(2), 0, 0, 0));
     assert_eq!(shapes, [STRANGE; 64]);
     shapes.fill(on(0));
-    assert_eq!(update(&[0; 8], &mut shapes[1..]), ends(Read, 63, 63));
+    assert_eq!(update(&[0; 8], &mut shapes[1..]), ranked(Read, 63, 63, 1));
 }
 
 #[test]
 fn shapes_that_are_not_lent_are_left_alone() {
     let mut shapes = [STRANGE, on(1), STRANGE];
-    assert_eq!(update(&[0xe0], &mut shapes[1..2]), ends(Read, 6, 6));
+    assert_eq!(update(&[0xe0], &mut shapes[1..2]), ranked(Read, 6, 6, 1));
     assert_eq!(shapes, [STRANGE, on(0), STRANGE]);
-    assert_eq!(update(&[0xe0], &mut shapes[1..1]), ends(Read, 0, 0));
+    assert_eq!(update(&[0xe0], &mut shapes[1..1]), ranked(Read, 0, 0, 0));
     assert_eq!(shapes, [STRANGE, on(0), STRANGE]);
 }
 
@@ -140,12 +162,29 @@ fn a_precision_above_24_is_refused() {
 
 #[test]
 fn a_validation_gives_back_its_position() {
-    assert_eq!(validate_graph(&[], 77), ends(Read, 77, 0));
-    assert_eq!(validate_graph(&[on(2), on(0)], 77), ends(Read, 77, 0));
-    assert_eq!(validate_graph(&[on(2), on(3)], 77), ends(Refused(8), 77, 0));
-    assert_eq!(validate_graph(&[on(2), on(1)], 77), ends(Refused(9), 77, 0));
-    assert_eq!(validate_graph(&[on(0); 63], 77), ends(Read, 77, 0));
-    assert_eq!(validate_graph(&[on(0); 64], 77), ends(Refused(2), 0, 0));
+    let validate = |parents: &[usize]| {
+        let shapes: Vec<PositionSyntax> = parents.iter().copied().map(on).collect();
+        validate_graph(&shapes, 77)
+    };
+    assert_eq!(validate(&[]), ranked(Read, 77, 0, 0));
+    assert_eq!(validate(&[2, 0]), ranked(Read, 77, 0, 2));
+    assert_eq!(validate(&[2, 3]), ranked(Refused(8), 77, 0, 0));
+    assert_eq!(validate(&[2, 1]), ranked(Refused(9), 77, 0, 0));
+    assert_eq!(validate(&[0; 63]), ranked(Read, 77, 0, 1));
+    assert_eq!(validate(&[0; 64]), ranked(Refused(2), 0, 0, 0));
+}
+
+/// Each position hung on the one before it, or on the one after it; then the chain parted before or
+/// after position 41.
+#[test]
+fn the_longest_chain_gives_the_largest_rank() {
+    let before: Vec<PositionSyntax> = (1..=63).map(|i| on(i - 1)).collect();
+    let after: Vec<PositionSyntax> = (1..=63).map(|i| on((i + 1) % 64)).collect();
+    for (mut shapes, parted) in [(before, 40), (after, 41)] {
+        assert_eq!(validate_graph(&shapes, 0), ranked(Read, 0, 0, 63));
+        shapes[40] = on(0);
+        assert_eq!(validate_graph(&shapes, 0), ranked(Read, 0, 0, parted));
+    }
 }
 
 #[test]
@@ -179,7 +218,7 @@ fn only_the_words_of_counted_fields_are_written() {
 fn no_word_is_touched_with_recording_off() {
     let mut words = [BLANK; 100];
     let scene = read_scene(&SCENE, 0, false, &mut words);
-    assert_eq!(scene.answer(), ends(Read, 48, 20));
+    assert_eq!(scene.answer(), ranked(Read, 48, 20, 2));
     assert_eq!(words, [BLANK; 100]);
 }
 

@@ -4,7 +4,8 @@ use crate::rows::{Reading, Row};
 use crate::sides::{Port, Rust, words};
 use oracle::answer::{Answer, Verdict};
 use oracle::request::{Call, Request};
-use port::{compare, library};
+use port::compare;
+use port::library::Answered;
 
 /// The answer to a row, with its shapes, and its fields if recorded. It must be that of all sides, and
 /// of the calls that are timed.
@@ -40,7 +41,8 @@ fn hold_calls(row: &Row, recording: bool, answer: &Answer) {
     }
 }
 
-fn hold_port(by_port: gateway::Answer, answer: &Answer) {
-    assert_eq!(library::verdict(by_port), Ok(answer.verdict.clone()));
+fn hold_port(by_port: Answered, answer: &Answer) {
+    assert_eq!(by_port.verdict(), Ok(answer.verdict.clone()));
     assert_eq!(by_port.counted, answer.count);
+    assert_eq!(by_port.deepest, answer.deepest);
 }

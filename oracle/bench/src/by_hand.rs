@@ -1,4 +1,5 @@
 //! The scene that is read by hand in C: `scene.c`.
+use gateway::GraphAnswer;
 use gateway::raw::GatewayScene;
 use oracle::request::Call;
 use std::mem::MaybeUninit;
@@ -40,7 +41,7 @@ pub fn hold_to_port(call: &Call) {
     let mut by_port = by_hand.clone();
     let hand = read_scene(&call.bytes, offset, recording, &mut by_hand);
     let port = gateway::read_scene(&call.bytes, offset, recording, &mut by_port);
-    assert_eq!(gateway::Answer::from(hand.answer), port.answer(), "{call}");
+    assert_eq!(GraphAnswer::from(hand.answer), port.answer(), "{call}");
     let (declared, beyond) = hand.shapes.split_at(hand.count);
     assert_eq!((declared, beyond), (port.shapes(), port.beyond()), "{call}");
     assert_eq!(by_hand, by_port, "{call}");

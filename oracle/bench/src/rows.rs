@@ -1,6 +1,6 @@
 //! What is timed: one row for each input.
 use crate::metadata;
-use crate::scenes::{Content, chain, scene, tree, update};
+use crate::scenes::{Content, chain, scene, tree, turned, update};
 use apac::run;
 use gateway::{MAX_BYTES, MAX_POSITIONS};
 use oracle::request::{Question, Shape};
@@ -97,6 +97,10 @@ pub fn scenes() -> Vec<Row> {
         of("8 positions", mixed(8, tree)),
         of("63 positions", mixed(MAX_POSITIONS, tree)),
         of("63 positions in a chain", mixed(MAX_POSITIONS, chain)),
+        of(
+            "63 positions in a chain, turned",
+            mixed(MAX_POSITIONS, turned),
+        ),
         of("the most fields that are read", most(FULLEST)),
         of("the most fields", most(TOO_FULL)),
         of("8 MiB of extensions", filled(most(LARGE))),

@@ -1,5 +1,6 @@
 //! Scenes and their updates.
 use crate::writer::Writer;
+use gateway::MAX_POSITIONS;
 
 /// The most extensions of a position that is read.
 const MAX_EXTENSIONS: usize = 31;
@@ -24,6 +25,11 @@ pub fn tree(position: usize) -> usize {
 /// Each position hangs on the one before it.
 pub fn chain(position: usize) -> usize {
     position - 1
+}
+
+/// Each of 63 positions hangs on the one after it.
+pub fn turned(position: usize) -> usize {
+    (position + 1) % (MAX_POSITIONS + 1)
 }
 
 /// What the positions of an input declare.

@@ -2,8 +2,11 @@
 use crate::by_hand;
 use crate::rows::{Reading, Row};
 use apac::run::End;
-use gateway::{FIELD_WORDS, MAX_FIELDS, PositionSyntax, graph_update, read_metadata, read_scene};
+use gateway::{
+    FIELD_WORDS, GraphAnswer, MAX_FIELDS, PositionSyntax, graph_update, read_metadata, read_scene,
+};
 use oracle::request::Shape;
+use port::library::Answered;
 use std::hint::black_box;
 
 /// The words that are lent: room for as many fields as can be recorded, or none.
@@ -74,14 +77,17 @@ impl<'a> Port<'a> {
         }
     }
 
-    pub fn call(&mut self) -> gateway::Answer {
-        let bytes = black_box(self.row.bytes.as_slice());
+    pub fn call(&mut self) -> Answered {
+        let (bytes, recording) = (black_box(self.row.bytes.as_slice()), self.recording);
         let words = self.words.as_mut_slice();
         match self.row.reading {
-            Reading::Scene => black_box(&read_scene(bytes, 0, self.recording, words)).answer(),
-            Reading::Metadata => read_metadata(bytes, 0, self.recording, words),
+            Reading::Scene => {
+                let scene = read_scene(bytes, 0, recording, words);
+                black_box(&scene).answer().into()
+            }
+            Reading::Metadata => read_metadata(bytes, 0, recording, words).into(),
             Reading::Update { .. } => {
-                graph_update(bytes, 0, self.recording, words, &mut self.shapes)
+                graph_update(bytes, 0, recording, words, &mut self.shapes).into()
             }
         }
     }
@@ -96,7 +102,7 @@ impl<'a> ByHand<'a> {
         }
     }
 
-    pub fn call(&mut self) -> gateway::Answer {
+    pub fn call(&mut self) -> GraphAnswer {
         let bytes = black_box(self.row.bytes.as_slice());
         let scene = by_hand::read_scene(bytes, 0, self.recording, &mut self.words);
         black_box(&scene);

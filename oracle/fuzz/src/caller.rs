@@ -1,7 +1,7 @@
 //! The library asked again, in memory that faults beside all that is lent.
 use crate::input::{GREATEST_ROOM, GREATEST_SHAPES};
 use crate::pages::{Access, Lent, Pages, Side};
-use gateway::raw::{self, GatewayAnswer, GatewayScene};
+use gateway::raw::{self, GatewayAnswer, GatewayGraphAnswer, GatewayScene};
 use gateway::{MAX_POSITIONS, PositionSyntax};
 use oracle::answer::{Answer, Field, Outcome};
 use oracle::names;
@@ -87,7 +87,7 @@ impl Caller {
         let memory = self.shapes.lend(side, &shapes, Access::Reading);
         // SAFETY: as for a reading.
         let given = unsafe { raw::gateway_validation(memory.as_ptr(), memory.len(), at as usize) };
-        must_be(given, answer)?;
+        must_be(given.into(), answer)?;
         memory.must_hold(&shapes)
     }
 
@@ -96,7 +96,7 @@ impl Caller {
         let memory = self.bytes.lend(side, &text, Access::Writing);
         // SAFETY: as for a reading.
         let given = unsafe { raw::gateway_name(word, memory.as_ptr(), memory.len()) };
-        must_be(given, answer)?;
+        must_be(given.into(), answer)?;
         let written = answer.text.as_deref().unwrap_or_default();
         text[..written.len()].copy_from_slice(written.as_bytes());
         memory.must_hold(&text)
@@ -111,7 +111,7 @@ struct Memory<'p> {
 }
 
 impl Memory<'_> {
-    fn read(&self, call: &Call, answer: &Answer) -> Result<GatewayAnswer, String> {
+    fn read(&self, call: &Call, answer: &Answer) -> Result<Given, String> {
         let (bytes, words, shapes) = (&self.bytes, &self.words, &self.shapes);
         /// Calls a reading with what every reading takes, and what this one takes more.
         macro_rules! reading {
@@ -133,10 +133,12 @@ impl Memory<'_> {
         }
         match &call.question {
             Question::Scene => declared(reading!(gateway_scene), &answer.shapes),
-            Question::Metadata => Ok(reading!(gateway_metadata)),
-            Question::Update(_) => Ok(reading!(gateway_update, shapes.as_ptr(), shapes.len())),
+            Question::Metadata => Ok(reading!(gateway_metadata).into()),
+            Question::Update(_) => {
+                Ok(reading!(gateway_update, shapes.as_ptr(), shapes.len()).into())
+            }
             Question::Position { full, .. } => {
-                Ok(reading!(gateway_position, shapes.as_ptr(), *full))
+                Ok(reading!(gateway_position, shapes.as_ptr(), *full).into())
             }
             Question::Fields(_) => Err("the library has no fields".into()),
         }
@@ -172,17 +174,36 @@ fn words(fields: &[Field], room: usize) -> Result<Vec<u64>, String> {
 }
 
 /// The answer of a scene, whose shapes must be these and then the default.
-fn declared(scene: GatewayScene, shapes: &[Shape]) -> Result<GatewayAnswer, String> {
+fn declared(scene: GatewayScene, shapes: &[Shape]) -> Result<Given, String> {
     let mut all = lent(shapes);
     all.resize(MAX_POSITIONS, PositionSyntax::default());
     if scene.count == shapes.len() && scene.shapes[..] == all {
-        Ok(scene.answer)
+        Ok(scene.answer.into())
     } else {
         Err("other shapes of a scene".into())
     }
 }
 
-fn must_be(given: GatewayAnswer, answer: &Answer) -> Result<(), String> {
+/// Outcome, number, position and count of what was answered, and the largest rank if there is one.
+#[derive(Debug, PartialEq)]
+struct Given([u64; 4], Option<usize>);
+
+impl From<GatewayAnswer> for Given {
+    fn from(answer: GatewayAnswer) -> Self {
+        let (position, counted) = (answer.position as u64, answer.counted as u64);
+        Self([answer.outcome, answer.number, position, counted], None)
+    }
+}
+
+impl From<GatewayGraphAnswer> for Given {
+    fn from(answer: GatewayGraphAnswer) -> Self {
+        let (position, counted) = (answer.position as u64, answer.counted as u64);
+        let numbers = [answer.outcome, answer.number, position, counted];
+        Self(numbers, Some(answer.deepest))
+    }
+}
+
+fn must_be(given: Given, answer: &Answer) -> Result<(), String> {
     let verdict = &answer.verdict;
     let outcome = match verdict.outcome {
         Outcome::Read => 0,
@@ -190,18 +211,8 @@ fn must_be(given: GatewayAnswer, answer: &Answer) -> Result<(), String> {
         Outcome::Stopped => 2,
         _ => return Err(format!("no outcome of the library: {}", verdict.outcome)),
     };
-    let given = [
-        given.outcome,
-        given.number,
-        given.position as u64,
-        given.counted as u64,
-    ];
-    let must = [
-        outcome,
-        verdict.number.into(),
-        verdict.position,
-        answer.count as u64,
-    ];
+    let (number, count) = (verdict.number.into(), answer.count as u64);
+    let must = Given([outcome, number, verdict.position, count], answer.deepest);
     if given == must {
         Ok(())
     } else {
@@ -215,7 +226,7 @@ mod tests {
     use port::compare::agreed;
 
     /// Requests of every kind, read and refused, with recording and without.
-    const LINES: [&str; 11] = [
+    const LINES: [&str; 12] = [
         "scene 0 1 101 0a0080800080",
         "scene 0 1 99 0a0080800080",
         "scene 0 0 3 0a0080800080",
@@ -225,12 +236,13 @@ mod tests {
         "position 0 1 60 1 0:1:2:4:6:1 000000",
         "list 1 100 0:0a0080800080 0:c100,0:70,0:c100",
         "validation 77 0:0:0:0:2:0,0:0:0:0:1:0",
+        "validation 77 0:0:0:0:2:0,0:0:0:0:0:0",
         "name 257 28",
         "name 257 26",
     ];
 
     /// Changes of an answer, which tell whether there was something to change.
-    const CHANGES: [fn(&mut Answer) -> bool; 9] = [
+    const CHANGES: [fn(&mut Answer) -> bool; 10] = [
         |_| false,
         |answer| {
             answer.verdict.outcome = Outcome::Stopped;
@@ -247,6 +259,10 @@ mod tests {
         |answer| {
             answer.count ^= 1;
             true
+        },
+        |answer| {
+            let deepest = answer.deepest.as_mut();
+            deepest.map(|deepest| *deepest ^= 1).is_some()
         },
         |answer| {
             let last = answer.shapes.last_mut();

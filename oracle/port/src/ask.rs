@@ -1,6 +1,6 @@
 //! Requests put to the library, and what it gives back, checked, as answers.
 use crate::buffer::Buffer;
-use crate::library::{left, lent, verdict};
+use crate::library::{Answered, left, lent};
 use crate::names;
 use gateway::{
     FIELD_WORDS, FieldValue, PositionSyntax, Scene, graph_update, read_metadata, read_position,
@@ -11,7 +11,7 @@ use oracle::request::{Call, Input, List, Question, Request, Shape};
 use std::{iter, slice};
 
 /// The library's answer, and the shapes after the call.
-type Left = (gateway::Answer, Vec<Shape>);
+type Left = (Answered, Vec<Shape>);
 
 pub fn answer(request: &Request) -> Result<Answer, String> {
     match request {
@@ -19,10 +19,7 @@ pub fn answer(request: &Request) -> Result<Answer, String> {
         Request::List(list) => answer_list(list),
         Request::Validation { at, shapes } => {
             let answer = validate_graph(&lent(shapes), *at as usize);
-            Ok(Answer {
-                count: answer.counted,
-                ..Answer::bare(request.kind(), verdict(answer)?, &[])
-            })
+            Answered::from(answer).with_shapes(request.kind(), &[])
         }
         Request::Name { word, room } => names::answer(*word, *room as usize),
         Request::Show { .. } => Err("the library has no shows".into()),
@@ -42,7 +39,7 @@ fn answer_list(list: &List) -> Result<Answer, String> {
         let Input { offset, bytes } = &list.scene;
         let scene = read_scene(bytes, *offset as usize, recording, words);
         shapes = Buffer::holding(scene.shapes().to_vec());
-        Ok((scene.answer(), declared(&scene)?))
+        Ok((scene.answer().into(), declared(&scene)?))
     });
     let others = list.updates.iter().map(|Input { offset, bytes }| {
         recorded("update", recording, room, |words| {
@@ -65,9 +62,8 @@ fn recorded(
     let recorded = if recording { answer.counted } else { 0 };
     let words = words.written(recorded.saturating_mul(FIELD_WORDS))?;
     Ok(Answer {
-        count: answer.counted,
         fields: fields(words)?,
-        ..Answer::bare(kind, verdict(answer)?, &shapes)
+        ..answer.with_shapes(kind, &shapes)?
     })
 }
 
@@ -76,7 +72,7 @@ fn asked(call: &Call, words: &mut [u64]) -> Result<Left, String> {
     match &call.question {
         Question::Scene => {
             let scene = read_scene(bytes, offset, recording, words);
-            Ok((scene.answer(), declared(&scene)?))
+            Ok((scene.answer().into(), declared(&scene)?))
         }
         Question::Update(given) => {
             let mut shapes = Buffer::holding(lent(given));
@@ -86,11 +82,11 @@ fn asked(call: &Call, words: &mut [u64]) -> Result<Left, String> {
             let mut shapes = Buffer::holding(lent(slice::from_ref(shape)));
             let shape = &mut shapes.lent()[0];
             let answer = read_position(bytes, offset, recording, words, shape, *full);
-            Ok((answer, left(shapes.held()?)))
+            Ok((answer.into(), left(shapes.held()?)))
         }
         Question::Metadata => {
             let answer = read_metadata(bytes, offset, recording, words);
-            Ok((answer, Vec::new()))
+            Ok((answer.into(), Vec::new()))
         }
         Question::Fields(_) => Err("the library has no fields".into()),
     }
@@ -105,7 +101,7 @@ fn updated(
     shapes: &mut Buffer<PositionSyntax>,
 ) -> Result<Left, String> {
     let answer = graph_update(bytes, offset as usize, recording, words, shapes.lent());
-    Ok((answer, left(shapes.held()?)))
+    Ok((answer.into(), left(shapes.held()?)))
 }
 
 /// The shapes of a scene; those beyond its count must be the default.
@@ -182,6 +178,28 @@ mod tests {
         assert_eq!(update(63), (0, 63, 63));
         assert_eq!(update(64), (2, 0, 0));
         assert_eq!(update(70), (2, 0, 0));
+    }
+
+    /// Document 01's scene and packets, and the validations of what they leave or would leave.
+    #[test]
+    fn largest_ranks() {
+        let (on_first, free) = ("1:0:0:0:0:0,1:0:0:0:1:0", "1:0:0:0:0:0,1:0:0:0:0:0");
+        for (line, expected) in [
+            ("scene 0 0 0 0a0080800080".into(), Some(2)),
+            ("scene 0 0 0 00".into(), Some(0)),
+            ("scene 0 0 0 04000400".into(), Some(0)),
+            (format!("update 0 0 0 {on_first} c100"), Some(0)),
+            (format!("update 0 0 0 {on_first} 70"), Some(1)),
+            (format!("update 0 0 0 {free} c100"), Some(2)),
+            ("validation 77 -".into(), Some(0)),
+            (format!("validation 77 {on_first}"), Some(2)),
+            ("validation 77 0:0:0:0:2:0,0:0:0:0:1:0".into(), Some(0)),
+            ("position 0 0 0 1 0:0:0:0:0:0 00000000".into(), None),
+            ("metadata 0 0 0 40".into(), None),
+        ] {
+            let answer = agreed(&Request::parse(&line).expect("a request"));
+            assert_eq!(answer.expect("the same answer").deepest, expected, "{line}");
+        }
     }
 
     /// Document 01's show: its last update closes a circle, unless the one before it frees a position.

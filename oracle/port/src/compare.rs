@@ -76,8 +76,8 @@ mod tests {
         Answer::bare("update", Verdict::refused(number, 7), &[])
     }
 
-    const TOLD: &str = "by the Rust: update refused 8 7 0 0 - -
-by the port: update refused 9 7 0 0 - -";
+    const TOLD: &str = "by the Rust: update refused 8 7 0 0 0 - -
+by the port: update refused 9 7 0 0 0 - -";
 
     #[test]
     fn differences_are_told() {
@@ -90,7 +90,7 @@ by the port: update refused 9 7 0 0 - -";
     fn shows_are_not_asked_of_the_library() {
         let request = Request::parse("show 00").expect("a request");
         let told = "show 00
-by the Rust: show refused 24 0 16 0 - file refused 24/
+by the Rust: show refused 24 0 16 - 0 - file refused 24/
 by the port: the library has no shows";
         assert_eq!(agreed(&request), Err(told.into()));
     }

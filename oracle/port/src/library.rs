@@ -1,6 +1,6 @@
 //! The library's shapes and answers, in the oracle's types.
-use gateway::PositionSyntax;
-use oracle::answer::{Outcome, Verdict};
+use gateway::{GraphAnswer, PositionSyntax};
+use oracle::answer::{Answer, Outcome, Verdict};
 use oracle::request::Shape;
 
 /// A shape of another type: the fields are the same.
@@ -29,17 +29,60 @@ pub fn left(shapes: &[PositionSyntax]) -> Vec<Shape> {
     shapes.iter().map(left).collect()
 }
 
-pub fn verdict(answer: gateway::Answer) -> Result<Verdict, String> {
-    let (outcome, number) = match answer.outcome {
-        gateway::Outcome::Read => (Outcome::Read, 0),
-        gateway::Outcome::Refused(number) => (Outcome::Refused, number),
-        gateway::Outcome::Stopped(number) => (Outcome::Stopped, number),
-    };
-    Ok(Verdict {
-        outcome,
-        number: number
-            .try_into()
-            .map_err(|_| format!("no number: {number}"))?,
-        position: answer.position as u64,
-    })
+/// What a call answers, whatever is asked.
+#[derive(Clone, Copy, Debug, PartialEq)]
+pub struct Answered {
+    pub outcome: gateway::Outcome,
+    pub position: usize,
+    pub counted: usize,
+    /// The largest rank, if the library's type has one.
+    pub deepest: Option<usize>,
+}
+
+impl From<gateway::Answer> for Answered {
+    fn from(answer: gateway::Answer) -> Self {
+        Self {
+            outcome: answer.outcome,
+            position: answer.position,
+            counted: answer.counted,
+            deepest: None,
+        }
+    }
+}
+
+impl From<GraphAnswer> for Answered {
+    fn from(answer: GraphAnswer) -> Self {
+        Self {
+            outcome: answer.outcome,
+            position: answer.position,
+            counted: answer.counted,
+            deepest: Some(answer.deepest),
+        }
+    }
+}
+
+impl Answered {
+    pub fn verdict(&self) -> Result<Verdict, String> {
+        let (outcome, number) = match self.outcome {
+            gateway::Outcome::Read => (Outcome::Read, 0),
+            gateway::Outcome::Refused(number) => (Outcome::Refused, number),
+            gateway::Outcome::Stopped(number) => (Outcome::Stopped, number),
+        };
+        Ok(Verdict {
+            outcome,
+            number: number
+                .try_into()
+                .map_err(|_| format!("no number: {number}"))?,
+            position: self.position as u64,
+        })
+    }
+
+    /// The oracle's form of the answer, with the shapes after the call and no fields.
+    pub fn with_shapes(&self, kind: &'static str, shapes: &[Shape]) -> Result<Answer, String> {
+        Ok(Answer {
+            count: self.counted,
+            deepest: self.deepest,
+            ..Answer::bare(kind, self.verdict()?, shapes)
+        })
+    }
 }

@@ -1,6 +1,6 @@
 //! Name words put to the library, and the texts that it writes.
 use crate::buffer::Buffer;
-use crate::library;
+use crate::library::Answered;
 use gateway::{MAX_NAME, Outcome, name_text};
 use oracle::answer::Answer;
 
@@ -9,7 +9,7 @@ pub fn answer(word: u64, room: usize) -> Result<Answer, String> {
     let (answer, text) = name_text(word, bytes.lent());
     let text = (answer.outcome == Outcome::Read).then(|| text.into());
     bytes.written(answer.counted)?;
-    let verdict = library::verdict(answer)?;
+    let verdict = Answered::from(answer).verdict()?;
     Ok(Answer::of_text("name", verdict, answer.counted, text))
 }
 

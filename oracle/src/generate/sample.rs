@@ -8,6 +8,7 @@ use super::fixed::boundaries::{
     examples, extended_graphs, extended_position, precisions, shape_counts,
 };
 use super::fixed::corners::corners;
+use super::fixed::graphs::{changes, scenes, steps, validations};
 use super::fixed::labels::labelled;
 use super::fixed::names::{AMPLE, greatest, length};
 use super::fixed::scripts::limits;
@@ -105,6 +106,7 @@ fn readings(batch: &mut Batch<'_>) {
         list_of(batch, count);
     }
     fill(batch, from, VALIDATIONS, some_list);
+    graphs(batch);
 }
 
 /// From every bit of a byte on, once with its fields.
@@ -270,6 +272,22 @@ fn widest(batch: &mut Batch<'_>) {
     });
     for good in [scene, update] {
         batch.at(&good, 3, Record::Off);
+    }
+}
+
+/// Scenes of 63 positions in a chain from either end; an update that parts the second chain, one
+/// that makes the first, one that is refused and so leaves it, and one that hangs a position lower
+/// in a star; every form as a validation.
+fn graphs(batch: &mut Batch<'_>) {
+    let chains = scenes().into_iter().take(2);
+    let parted_and_made = changes().into_iter().skip(1).step_by(3);
+    let refused_and_lower = steps().into_iter().skip(1).step_by(18).take(2);
+    for good in chains.chain(parted_and_made).chain(refused_and_lower) {
+        let lead = batch.rng.below(8) as usize;
+        batch.at(&good, lead, Record::Off);
+    }
+    for shapes in validations() {
+        batch.validation(77, shapes);
     }
 }
 

@@ -114,7 +114,7 @@ fn sample_is_bounded() {
     let requests = sample();
     let size = |request| record(request).expect("an answer").len();
     assert!((2_500..=4_000).contains(&requests.len()));
-    assert!(requests.iter().map(size).sum::<usize>() <= 720_000);
+    assert!(requests.iter().map(size).sum::<usize>() <= 745_000);
 }
 
 #[test]
@@ -137,6 +137,14 @@ fn sample_reaches_every_number() {
     }
     let widest = |answer: &Answer| answer.kind == "scene" && answer.shapes.len() == 63;
     assert!(answers.iter().any(widest));
+    for kind in ["scene", "update", "validation"] {
+        let of_kind = answers.iter().filter(|answer| answer.kind == kind);
+        let deepest: BTreeSet<_> = of_kind.filter_map(|answer| answer.deepest).collect();
+        assert!(
+            [0, 1, 2, 3, 63].iter().all(|rank| deepest.contains(rank)),
+            "{kind}"
+        );
+    }
 }
 
 /// Block and leaf of every template.
@@ -235,6 +243,48 @@ fn from_the_first_bit(request: &Request) -> String {
     }
 }
 
+/// Each of the forms, and each made of the one before it.
+#[test]
+fn graphs_have_their_ranks() {
+    let deepest = |graphs: Vec<Good>| -> Vec<Option<usize>> {
+        graphs.iter().map(|good| good.answer().deepest).collect()
+    };
+    let forms = [63, 63, 32, 2, 1].map(Some);
+    assert_eq!(deepest(fixed::graphs::scenes()), forms);
+    let next = [63, 32, 2, 1, 63].map(Some);
+    assert_eq!(deepest(fixed::graphs::changes()), next);
+    // None moved, the first on the last, the last freed, one amid, the second on the last but one.
+    let steps = [
+        [63, 0, 62, 32, 0],
+        [63, 62, 63, 32, 61],
+        [32, 0, 31, 32, 0],
+        [2, 0, 2, 2, 3],
+        [1, 2, 1, 1, 2],
+    ];
+    let steps = steps.concat().into_iter().map(Some);
+    assert!(deepest(fixed::graphs::steps()).into_iter().eq(steps));
+}
+
+/// The numbers that the graphs of a kind end in; if they are refused the largest rank is 0.
+#[test]
+fn graphs_reach_every_refusal() {
+    let answers: Vec<Answer> = requests(fixed::graphs::graphs).iter().map(answer).collect();
+    for (kind, numbers) in [
+        ("scene", [0, 3, 5, 8, 9].as_slice()),
+        ("update", &[0, 2, 3, 5, 8, 9]),
+        ("validation", &[0, 2, 8, 9]),
+    ] {
+        let of_kind = answers.iter().filter(|answer| answer.kind == kind);
+        let (read, refused): (Vec<&Answer>, Vec<&Answer>) =
+            of_kind.partition(|answer| answer.verdict.outcome == Outcome::Read);
+        assert!(read.iter().all(|answer| answer.deepest > Some(0)));
+        assert!(refused.iter().all(|answer| answer.deepest == Some(0)));
+        let found = read.iter().chain(&refused);
+        let found: BTreeSet<u8> = found.map(|answer| answer.verdict.number).collect();
+        assert!(found.iter().eq(numbers), "{kind} {found:?}");
+    }
+}
+
 /// The length of a show file, its number, and what is printed for it.
 struct Shown {
     length: usize,
@@ -277,10 +327,11 @@ fn fixed_shows() {
     }
 }
 
-/// What is asked after them stays as it was before there were shows and lists.
+/// What is asked after them stays as it was before there were graphs, shows and lists.
 #[test]
-fn fixed_shows_and_lists_take_no_random_numbers() {
+fn fixed_graphs_shows_and_lists_take_no_random_numbers() {
     let rng = &mut Rng::new(1);
+    fixed::graphs::graphs(&mut Batch::new(rng));
     fixed::shows::shows(&mut Batch::new(rng));
     fixed::lists::lists(&mut Batch::new(rng));
     assert_eq!(rng.next(), Rng::new(1).next());
@@ -311,6 +362,9 @@ fn shows_reach_every_line() {
         );
         assert_eq!(ends(false), BTreeSet::from(["read", "3", "7", "8", "9"]));
         assert!(lines.iter().any(|line| line.ends_with(" rank 63")));
+        for deepest in ["deepest 0", "deepest 1", "deepest 2", "deepest 63"] {
+            assert!(lines.contains(&deepest), "{deepest}");
+        }
     }
 }
 
@@ -387,6 +441,24 @@ fn lists_reach_their_limits() {
     }
     assert!(listed(1..=8, 13..=199) && listed(2..=63, 200..=200));
     assert!(LISTS.iter().all(|(list, _)| list.updates.len() <= 200));
+}
+
+/// In some lists the longest chain grows, in some it shrinks, and in some a packet is refused and so
+/// gives 0, after which one is read that gives more than 0 for what the others have left.
+#[test]
+fn lists_change_their_ranks() {
+    let deepest = |(_, packets): &(List, Vec<Answer>)| -> Vec<usize> {
+        let ranks = packets.iter().map(|packet| packet.deepest);
+        ranks.map(|rank| rank.expect("a largest rank")).collect()
+    };
+    let lists: Vec<Vec<usize>> = LISTS.iter().map(deepest).collect();
+    let times = |wanted: fn(&[usize]) -> bool| {
+        let lists = lists.iter().filter(|ranks| ranks.windows(3).any(wanted));
+        lists.count()
+    };
+    assert!(times(|ranks| ranks[0] > 0 && ranks[1] > ranks[0]) >= 100);
+    assert!(times(|ranks| ranks[1] > 0 && ranks[0] > ranks[1]) >= 100);
+    assert!(times(|ranks| ranks[0] > 0 && ranks[1] == 0 && ranks[2] > 0) >= 100);
 }
 
 /// The shapes change often, also late in a long list, by packets from every bit of a byte on.

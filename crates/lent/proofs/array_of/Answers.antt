@@ -1,7 +1,7 @@
 use mathlib.Core.Path.{refl}
 use native.Mathlib.Omega.{arith}
 use lib.ListN.{length-set}
-use Rattle.lent.proofs.Copies.{one_more, all_copied}
+use Rattle.validation.proofs.Lists.{one_more, all_copied}
 use Rattle.lent.proofs.array_of.Goals as goal
 
 pub returns-then-shapes-gt-POSITIONS : goal.returns-then-shapes-gt-POSITIONS

@@ -1,6 +1,6 @@
 use mathlib.Core.Path.{sym}
 use native.Mathlib.Omega.{arith}
-use Rattle.lent.proofs.Copies.{one_more, all_copied}
+use Rattle.validation.proofs.Lists.{one_more, all_copied}
 use Rattle.lent.proofs.write_back.Goals as goal
 
 pub loop-i-preserved : goal.loop-i-preserved

@@ -7,7 +7,7 @@ returns-then-part_count-k c = no_part _ _ _ c.part_count.ensures (omega arith)
 
 pub returns-then-k-eq0 : goal.returns-then-k-eq0
 returns-then-k-eq0 c =
-    scene_answered _ _ _ c.part_count.ensures (omega arith) c.if-k-eq0.true c.scene_part.ensures
+    scene_answered _ _ _ c.part_count.ensures (omega arith) c.if-k-eq0.true c.scene_part-scene.ensures
 
 pub returns : goal.returns
 returns c =

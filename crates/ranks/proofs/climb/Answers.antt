@@ -1,20 +1,30 @@
-use mathlib.Core.Path.{sym, ◌∙◌}
+use mathlib.Core.Path.{sym}
 use native.Mathlib.Omega.{arith}
-use native.Mathlib.Nat.{sub-zero}
-use Rattle.ranks.proofs.Chains.{climb_none, climb_end, climb_out, climb_turn}
+use Rattle.ranks.proofs.Ranks.{rank_few}
+use Rattle.ranks.proofs.Walks.{begins, goes_on, meets, ends, leaves}
+use Rattle.ranks.proofs.Walks as walk
 use Rattle.ranks.proofs.climb.Goals as goal
 
 pub loop-passed-init : goal.loop-passed-init
-loop-passed-init c = rw sub-zero
+loop-passed-init c = begins _ _
 
 pub returns-then-at-eq0 : goal.returns-then-at-eq0
-returns-then-at-eq0 c = sym (climb_end _ _ _ _ (omega arith) c.if-at-eq0.true) ∙ c.loop-passed.invariant
+returns-then-at-eq0 c = sym (ends _ c.loop-passed.invariant c.if-at-eq0.true)
 
 pub returns-then-at-parents : goal.returns-then-at-parents
-returns-then-at-parents c = sym (climb_out _ _ _ _ (omega arith) c.if-at-parents.true) ∙ c.loop-passed.invariant
+returns-then-at-parents c = sym (leaves _ c.loop-passed.invariant c.if-at-parents.true)
+
+pub overflow_add-result : goal.overflow_add-result
+overflow_add-result c =
+    let few = rank_few _ (c.requires.ranks c.loop-passed.at (record { from = omega arith; to = omega arith }) (omega arith)) in
+    omega (arith, few)
+
+pub returns-then-rank-gt0 : goal.returns-then-rank-gt0
+returns-then-rank-gt0 c =
+    sym (meets _ c.loop-passed.invariant (c.requires.ranks c.loop-passed.at (record { from = omega arith; to = omega arith }) (omega arith)))
 
 pub loop-passed-preserved : goal.loop-passed-preserved
-loop-passed-preserved c = sym (climb_turn _ _ _ _ (omega arith) (record { from = omega arith; to = omega arith })) ∙ c.loop-passed.invariant
+loop-passed-preserved c = goes_on _ c.loop-passed.invariant (record { from = omega arith; to = omega arith })
 
 pub returns : goal.returns
-returns c = sym (climb_none _ _ _ _ (omega arith)) ∙ c.loop-passed.invariant
+returns c = sym (walk.returns _ (omega arith) c.loop-passed.invariant)

@@ -5,7 +5,7 @@ use Rattle.show_parts.specs.Parts.{packets}
 use Rattle.show.specs.Show.{updates_text}
 use Rattle.show.proofs.put_updates.Given as goal
 
--- the lines of the updates from part `k` on, and of the positions after them, are still to be put
+-- the lines of the updates from part `k` on, and what is printed of the shapes after them, are still to be put
 abbrev pub invariant-loop-k : goal.invariant-loop-k
 invariant-loop-k l =
     let bytes = l.file.bytes.now in

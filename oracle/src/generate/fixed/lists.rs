@@ -16,7 +16,8 @@ pub fn lists(batch: &mut Batch<'_>) {
         let mut parts = parts(&file).expect("a sound header");
         parts.truncate(1 + MOST as usize);
         for lead in 0..8 {
-            let list = listed(parts.iter().map(|part| after_ones(part, lead)).collect());
+            let after = |part: &&[u8]| after_ones(&Bits::from(*part), lead);
+            let list = listed(parts.iter().map(after).collect());
             let enough = enough(&list);
             batch.list(list.clone(), Record::Room(enough));
             batch.list(list, Record::Room(enough.saturating_sub(1)));
@@ -24,14 +25,14 @@ pub fn lists(batch: &mut Batch<'_>) {
     }
 }
 
-/// The bytes after so many ones.
-fn after_ones(bytes: &[u8], lead: usize) -> Input {
-    let mut bits = Bits::default();
-    bits.put(u64::MAX, lead);
-    bits.append(&Bits::from(bytes));
+/// The bits after so many ones.
+pub fn after_ones(bits: &Bits, lead: usize) -> Input {
+    let mut after = Bits::default();
+    after.put(u64::MAX, lead);
+    after.append(bits);
     Input {
         offset: lead as u64,
-        bytes: bits.bytes(),
+        bytes: after.bytes(),
     }
 }
 

@@ -2,6 +2,7 @@
 //! examples. What a limit leaves free is still drawn from the seed.
 pub mod boundaries;
 pub mod corners;
+pub mod graphs;
 pub mod labels;
 pub mod lists;
 pub mod names;
@@ -13,11 +14,12 @@ pub mod validations;
 use super::Part;
 
 /// In the order in which they draw from the seed.
-pub const PARTS: [Part; 12] = [
+pub const PARTS: [Part; 13] = [
     short::short,
     boundaries::boundaries,
     corners::every_corner,
     validations::small,
+    graphs::graphs,
     scripts::limits,
     scripts::full_buffers,
     scripts::every_take,

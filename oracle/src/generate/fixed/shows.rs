@@ -3,11 +3,11 @@
 //!
 //! They take nothing from the random numbers of a batch, so that no other request depends on them.
 use super::boundaries::{bytes, fullest};
+use super::graphs::{one_on, pairs, scene_on, update_on, write_head, written};
 use crate::bits::Bits;
 use crate::driver::GREATEST_COUNT;
 use crate::generate::batch::Batch;
-use crate::generate::drafts::positions::{EXTENSIONS, write_extensions};
-use crate::generate::drafts::{Draft, drafted};
+use crate::generate::drafts::positions::EXTENSIONS;
 use crate::rng::Rng;
 use crate::show::{COUNT_BYTES, GREATEST_FILE, GREATEST_PARTS, OFFSET_BYTES, header_length};
 use std::slice;
@@ -164,8 +164,8 @@ fn longer_parts() -> [File; 3] {
 /// Scenes that end in 3, 6, 7, 8 and 9, and one of the most extensions, alone and before updates.
 fn refused_scenes() -> Vec<File> {
     let mut scenes = ["-", "040000", "04", "04000400"].map(bytes).to_vec();
-    scenes.extend([EXTENSIONS - 1, EXTENSIONS].map(|count| scene_on(&[0, 1], count)));
-    scenes.extend([&[0, 3][..], &[1], &[2, 1]].map(|parents| scene_on(parents, 0)));
+    scenes.extend([EXTENSIONS - 1, EXTENSIONS].map(|count| scene_on(&[0, 1], count).bytes()));
+    scenes.extend([&[0, 3][..], &[1], &[2, 1]].map(|parents| scene_on(parents, 0).bytes()));
     let mut files = Vec::new();
     for scene in scenes {
         let mut parts = example();
@@ -179,8 +179,9 @@ fn refused_scenes() -> Vec<File> {
 /// 01's show.
 fn refused_updates() -> Vec<File> {
     let short = bytes("c1");
-    let extended = [EXTENSIONS - 1, EXTENSIONS].map(|count| update_on(&[None; 2], count));
-    let hung = [[Some(3), None], [None, Some(63)], [None, Some(2)]].map(|on| update_on(&on, 0));
+    let extended = [EXTENSIONS - 1, EXTENSIONS].map(|count| update_on(&[None; 2], count).bytes());
+    let hung = [[Some(3), None], [None, Some(63)], [None, Some(2)]];
+    let hung = hung.map(|parents| update_on(&parents, 0).bytes());
     let mut files = Vec::new();
     for update in [&[short], &extended[..], &hung].concat() {
         for place in 1..=EXAMPLE.len() {
@@ -192,89 +193,26 @@ fn refused_updates() -> Vec<File> {
     files
 }
 
-/// What a closure writes, with random numbers of its own.
-fn written(write: impl FnOnce(&mut Draft<'_>)) -> Bits {
-    drafted(&mut Rng::new(1), write)
-}
-
-/// A scene of positions that hang on these parents and may be hung elsewhere. The last one has so
-/// many extensions.
-fn scene_on(parents: &[u64], extensions: usize) -> Packet {
-    let scene = written(|d| {
-        d.put(parents.len() as u64, 6);
-        for (i, &parent) in parents.iter().enumerate() {
-            write_head(d, parent);
-            let last = i + 1 == parents.len();
-            write_rest(d, if last { extensions } else { 0 });
-        }
-    });
-    scene.bytes()
-}
-
-/// The parent may change, the range may not; precisions of 0, the parent, a range.
-fn write_head(d: &mut Draft<'_>, parent: u64) {
-    d.put(0b10_0000_0000, 10);
-    d.put(parent, 7);
-    d.put(0, 4);
-}
-
-/// An update of such a scene: positions are hung on a parent or left. The last one has so many
-/// extensions.
-fn update_on(parents: &[Option<u64>], extensions: usize) -> Packet {
-    let update = written(|d| {
-        for (i, parent) in parents.iter().enumerate() {
-            let last = i + 1 == parents.len();
-            let extensions = if last { extensions } else { 0 };
-            if d.flag(parent.is_some() || extensions > 0) {
-                if d.flag(parent.is_some()) {
-                    d.put(parent.unwrap_or(0), 7);
-                }
-                write_rest(d, extensions);
-            }
-        }
-    });
-    update.bytes()
-}
-
-/// No coordinates and no rotation, but so many extensions.
-fn write_rest(d: &mut Draft<'_>, extensions: usize) {
-    d.put(0, 2);
-    if d.flag(extensions > 0) {
-        write_extensions(d, extensions);
-        d.put(0, if extensions < EXTENSIONS { 4 } else { 0 });
-    }
-}
-
-/// 63 positions as a chain from either end, as a star, and hung on none; each alone, and with
-/// updates that hang one position on the last and all of them as the next form has them. And 62, of
-/// which one leaves the declared numbers, closes a circle, is hung elsewhere.
+/// Each form of 63 positions alone, and with updates that hang the first position on the last and
+/// all of them as the next form has them. And 62, of which one leaves the declared numbers, closes
+/// a circle, is hung elsewhere.
 fn graphs() -> Vec<File> {
-    let count = GREATEST_COUNT as u64;
-    let chain: Vec<u64> = (0..count).collect();
-    let turned: Vec<u64> = (2..=count).chain([0]).collect();
-    let star: Vec<u64> = (0..count).map(|i| i.min(1)).collect();
-    let free = vec![0; GREATEST_COUNT];
-    let forms = [&chain, &turned, &star, &free, &chain];
     let mut files = Vec::new();
-    for pair in forms.windows(2) {
-        let scene = scene_on(pair[0], 0);
-        let all: Vec<Option<u64>> = pair[1].iter().copied().map(Some).collect();
-        let updates = [one_on(GREATEST_COUNT, 1, count), update_on(&all, 0)];
+    for (form, next) in pairs() {
+        let scene = scene_on(&form, 0).bytes();
+        let all: Vec<Option<u64>> = next.into_iter().map(Some).collect();
+        let first_on_last = one_on(GREATEST_COUNT, 1, GREATEST_COUNT as u64);
+        let updates = [first_on_last, update_on(&all, 0)].map(|update| update.bytes());
         files.push(file(slice::from_ref(&scene)));
         files.push(file(&[&[scene], &updates[..]].concat()));
     }
     let fewer = GREATEST_COUNT - 1;
-    let updates = [(1, 63), (1, 62), (62, 7)].map(|(one, parent)| one_on(fewer, one, parent));
-    let scene = scene_on(&chain[..fewer], 0);
+    let chain: Vec<u64> = (0..fewer as u64).collect();
+    let scene = scene_on(&chain, 0).bytes();
+    let updates =
+        [(1, 63), (1, 62), (62, 7)].map(|(one, parent)| one_on(fewer, one, parent).bytes());
     files.push(file(&[&[scene], &updates[..]].concat()));
     files
-}
-
-/// An update of so many positions that hangs one of them on a parent.
-fn one_on(count: usize, one: usize, parent: u64) -> Packet {
-    let mut parents = vec![None; count];
-    parents[one - 1] = Some(parent);
-    update_on(&parents, 0)
 }
 
 /// 63 positions of the most fields, and an update of the most fields; the last position has the most
@@ -298,10 +236,10 @@ fn most_fields() -> Vec<File> {
 
 /// 63 positions and the most parts, each of which hangs a position elsewhere or is refused.
 fn many_updates() -> File {
-    let mut parts = vec![scene_on(&[0; GREATEST_COUNT], 0)];
+    let mut parts = vec![scene_on(&[0; GREATEST_COUNT], 0).bytes()];
     for i in 1..GREATEST_PARTS {
         let one = 1 + i % GREATEST_COUNT;
-        parts.push(one_on(GREATEST_COUNT, one, 7 * i as u64 % 64));
+        parts.push(one_on(GREATEST_COUNT, one, 7 * i as u64 % 64).bytes());
     }
     file(&parts)
 }
