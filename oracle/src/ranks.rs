@@ -25,17 +25,19 @@ pub fn deepest(shapes: &[Shape]) -> Option<usize> {
     Some(ranks?.into_iter().max().unwrap_or(0))
 }
 
+/// Shapes that hang on these parents.
+#[cfg(test)]
+pub fn hung(parents: &[usize]) -> Vec<Shape> {
+    let shape = |&parent| Shape {
+        parent,
+        ..Shape::default()
+    };
+    parents.iter().map(shape).collect()
+}
+
 #[cfg(test)]
 mod tests {
     use super::*;
-
-    fn hung(parents: &[usize]) -> Vec<Shape> {
-        let shape = |&parent| Shape {
-            parent,
-            ..Shape::default()
-        };
-        parents.iter().map(shape).collect()
-    }
 
     #[test]
     fn small_lists() {

@@ -142,6 +142,7 @@ fn position_lines(shapes: &[Shape]) -> Result<String, Outcome> {
 #[cfg(test)]
 mod tests {
     use super::*;
+    use crate::ranks::hung;
 
     /// Document 01's show.
     const EXAMPLE: [u8; 29] = [
@@ -227,14 +228,6 @@ deepest 2
         );
         let most = text(&with_offsets(&[2 + 4 * 256; 256], 9));
         assert_eq!(most, empty);
-    }
-
-    fn hung(parents: &[usize]) -> Vec<Shape> {
-        let shape = |&parent| Shape {
-            parent,
-            ..Shape::default()
-        };
-        parents.iter().map(shape).collect()
     }
 
     /// The largest rank is not always that of the last position, nor of the first.

@@ -11,10 +11,11 @@ use Rattle.rules.specs.declared.Answer.{Answer}
 use Rattle.rules.specs.Reading.{Input, is_read}
 use Rattle.rules.specs.Answer.{outcome_of}
 use Rattle.rules.proofs.Laws.{never}
-use Rattle.rules.proofs.Answers.{value_unread, value_of_read, entry_any, entry_unread}
+use Rattle.rules.proofs.Answers.{entry_any, entry_unread}
 use Rattle.position.specs.declared.PositionSyntax.{PositionSyntax}
 use Rattle.validation.specs.declared.GraphAnswer.{GraphAnswer}
 use Rattle.validation.specs.Validation.{GraphAnswered}
+use Rattle.validation.proofs.Answers.{read_over, unread_over}
 use Rattle.update.specs.Update.{graph_update, update_reading, UpdateGiven}
 
 -- `array` is a copy of the lent shapes, if they are at most 63
@@ -46,15 +47,10 @@ module _ (shapes array : List PositionSyntax) (copy : length shapes ≤ 63 → t
       told = t ∙ ap (λ (r : Answer). is_read r.outcome) given.answered.answer
 
       pub update_read : {u : List PositionSyntax} → b ≡ true → u ≡ take count after → GraphAnswered (update_reading i offset count shapes) shapes rec ws a u vs
-      update_read h p =
-          let read = given.answered in
-          let value = p ∙ read.value ∙ value_of_read (take count after) shapes _ (sym told ∙ h) in
-          record { answered = record { answer = read.answer; value = value; words = read.words }; deepest = given.deepest }
+      update_read h p = rw p (read_over given shapes (sym t ∙ h))
 
       pub update_ended : b ≡ false → GraphAnswered (update_reading i offset count shapes) shapes rec ws a shapes vs
-      update_ended h =
-          let read = given.answered in
-          record { answered = record { answer = read.answer; value = sym (value_unread shapes _ (sym told ∙ h)); words = read.words }; deepest = given.deepest }
+      update_ended h = unread_over given shapes (sym t ∙ h)
 
       -- one that was read has at most 63 shapes
       pub few : b ≡ true → length shapes ≤ 63

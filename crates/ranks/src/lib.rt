@@ -1,7 +1,8 @@
 // The ranks of positions, from the list of their parents alone: `parents[i]` is the parent of position `i + 1`, and 0 is none.
 //
-// `known` has a place for each position, of at most 255: its rank, or 0 where none is known. A chain is followed up to the first position whose rank
-// is known, and the ranks of those before it are known then. So, where all have ranks, none is passed more than twice.
+// `known` has a place for each position, of at most 255: its rank, or 0 where none is known. A chain is followed up to the first
+// position whose rank is known, and the ranks of those before it are known then. So, where all have ranks, none is passed more than
+// twice.
 #![tactic(auto)]
 
 ghost use Rattle.std.specs.Prelude.{◌≡◌, max, Ok, IfOk};

@@ -12,6 +12,7 @@ use Rattle.rules.specs.Rule.{Rule, End, refused, stopped}
 use Rattle.rules.specs.Reason.{end_of}
 use Rattle.rules.specs.Reading.{Reading, Result, read, ended, reading, is_read}
 use Rattle.rules.specs.Answer.{outcome_of, end_outcome, value_or, input_of, Answered}
+use Rattle.rules.proofs.Answers.{value_unread, value_of_read}
 use Rattle.rules.proofs.Laws.{never}
 use Rattle.parser.specs.declared.Parser.{Parser}
 use Rattle.parser.specs.Met.{Met, giving}
@@ -46,6 +47,24 @@ module _ {x : Reading (List PositionSyntax)} {before after : List PositionSyntax
 
   pub without : is_read r.outcome ≡ false → GraphAnswered x before rec ws (record { answer = r; deepest = 0 }) after vs
   without h = record { answered = m; deepest = largest_unread x.result (sym told ∙ h) }
+
+-- other shapes in the place of those that stand where nothing was read
+module _ {x : Reading (List PositionSyntax)} {before after : List PositionSyntax} {rec : Bool} {ws vs : List ℕ} {r : GraphAnswer} (m : GraphAnswered x before rec ws r after vs) (other : List PositionSyntax) where
+  pub read_over : is_read r.answer.outcome ≡ true → GraphAnswered x other rec ws r after vs
+  read_over h =
+      let read = m.answered in
+      record {
+        answered = record { answer = read.answer; value = read.value ∙ value_of_read before other x.result (sym (told read) ∙ h); words = read.words };
+        deepest = m.deepest;
+      }
+
+  pub unread_over : is_read r.answer.outcome ≡ false → GraphAnswered x other rec ws r other vs
+  unread_over h =
+      let read = m.answered in
+      record {
+        answered = record { answer = read.answer; value = sym (value_unread other x.result (sym (told read) ∙ h)); words = read.words };
+        deepest = m.deepest;
+      }
 
 -- an answer is the reading's
 pub graph_is : {x : Reading (List PositionSyntax)} {before after : List PositionSyntax} {rec : Bool} {ws vs : List ℕ} {r : GraphAnswer} → GraphAnswered x before rec ws r after vs → r ≡ graph_answer x
