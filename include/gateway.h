@@ -54,12 +54,14 @@ enum GatewayOutcome {
     GATEWAY_STOPPED = 2
 };
 
-/* What a position, metadata or a name answers. */
+/* What a position, metadata, a name or new parents answer. The last two are "read" if they are
+ * written. */
 typedef struct {
     uint64_t outcome; /* a GatewayOutcome */
     uint64_t number;  /* 0 if read, else a GatewayNumber */
     size_t position;  /* in bits, from the first bit of the input; the end, if read */
-    size_t counted;   /* the fields counted, recorded or not; of a name the bytes of its text */
+    size_t counted;   /* the fields counted, recorded or not; of a name the bytes of its text; of
+                         new parents the bits of their packet */
 } GatewayAnswer;
 
 /* What a scene, an update or a validation answers. `deepest` is the largest rank of the shapes that
@@ -75,13 +77,14 @@ typedef struct {
 
 /* Why a call was refused or stopped. The words beside the numbers are those of docs/NUMBERS.md.
  *
- * 1, 2, 25, 26, and 3 for the offset, give position 0 and count nothing. 3 for a field gives the
- * place of the read that failed: in an escaped number that part, in a label that byte, in a payload
- * its start. 4 to 22 and the stops give the place just after the bits last read. Only
- * gateway_validation gives 8 and 9 at a position that it was handed. */
+ * 1, 2, 25, 26, 36 to 38, and 3 for the offset, give position 0 and count nothing. 3 for a field
+ * gives the place of the read that failed: in an escaped number that part, in a label that byte, in
+ * a payload its start. 4 to 22 and the stops give the place just after the bits last read. But
+ * gateway_validation gives 8 and 9 at a position that it was handed, and gateway_parents at 0. */
 enum GatewayNumber {
-    /* Asked first, in this order: 1 and 3 by every reading, 2 where shapes are lent. 3 is given for
-     * an offset past the input's end, and later for each field whose bits are not there. */
+    /* Asked first, in this order: 1 and 3 by every reading, 2 where shapes are lent (by
+     * gateway_parents after 36). 3 is given for an offset past the input's end, and later for each
+     * field whose bits are not there. */
     GATEWAY_INPUT_LIMIT = 1, /* the input has more than 8,388,608 bytes */
     GATEWAY_SHAPE_LIMIT = 2, /* more than 63 shapes, or a precision above 24 */
     GATEWAY_TRUNCATED = 3,   /* the bits asked for are not there */
@@ -97,10 +100,10 @@ enum GatewayNumber {
     /* Asked of each position, wherever it stands. */
     GATEWAY_POSITION_EXTENSIONS = 7, /* no type 0 among 32 position extensions */
 
-    /* Asked of all parents after the last position. The rank of a position is 1 if its parent is 0,
-     * otherwise one more than the rank of its parent, which must be declared. The lowest-numbered
-     * position without a rank decides: 8 if its chain of parents leaves the declared numbers, 9 if
-     * the chain returns. */
+    /* Asked of all parents after the last position, and of all new parents. The rank of a position
+     * is 1 if its parent is 0, otherwise one more than the rank of its parent, which must be
+     * declared. The lowest-numbered position without a rank decides: 8 if its chain of parents
+     * leaves the declared numbers, 9 if the chain returns. */
     GATEWAY_SCENE_PARENT = 8,       /* a chain of parents leaves the declared positions */
     GATEWAY_SCENE_PARENT_CYCLE = 9, /* a chain of parents closes a circle */
 
@@ -132,7 +135,14 @@ enum GatewayNumber {
     GATEWAY_DOUBLE_PRECISION_RADIATION = 32, /* 64-bit radiation value */
     GATEWAY_RESOURCE_HRTF = 33,              /* HRTF type 2 */
     GATEWAY_HRTF_TYPE = 34,                  /* HRTF type above 2 */
-    GATEWAY_LZW_WIDTHS = 35 /* LZW initial width above 15, or greatest width above 16 */
+    GATEWAY_LZW_WIDTHS = 35, /* LZW initial width above 15, or greatest width above 16 */
+
+    /* Asked of new parents, in this order: 36, 2, 37, then 8 or 9, then 38. 37 is asked of a
+     * position whose new parent differs from the parent that it has, and of no other. A packet takes
+     * as many bytes as hold its bits, (bits + 7) / 8. */
+    GATEWAY_PARENT_COUNT = 36,  /* not as many new parents as shapes */
+    GATEWAY_PARENT_FIXED = 37,  /* the parent that changes is not dynamic */
+    GATEWAY_SHORT_PACKET = 38   /* buffer too short for the packet */
 };
 
 /* The words of a recorded field: the value of field i, counted from 0, is
@@ -207,6 +217,19 @@ GatewayGraphAnswer gateway_validation(const PositionSyntax *shapes, size_t shape
 /* Writes the text of a name word, in ASCII and with no zero byte after it. The bytes after the text
  * are unchanged, and all of them if the word is refused, by 25 or 26. The position is 0. */
 GatewayAnswer gateway_name(uint64_t word, uint8_t *bytes, size_t bytes_len);
+
+/* Writes the packet of fewest bits that gives the shapes new parents: parents[i] is to be that of
+ * shapes[i]. gateway_update, lent the same shapes, reads the packet to its last bit, and leaves them
+ * with these parents and everything else as it was. A position that keeps its parent takes 1 bit,
+ * one that loses it 6, one that is hung on another 12; the last two take 1 more if range_dynamic.
+ *
+ * The packet begins with the first bit of packet[0]. `counted` is its length in bits: 0 if it is
+ * refused, and for no shapes. 103 bytes are enough for every packet. The bits left in its last byte
+ * are 0. The bytes after it are unchanged, and all of them if it is refused, by 2, 8, 9, or 36 to
+ * 38. The position is 0. Old and new parents may be any numbers. */
+GatewayAnswer gateway_parents(const PositionSyntax *shapes, size_t shapes_len,
+                              const size_t *parents, size_t parents_len, uint8_t *packet,
+                              size_t packet_len);
 
 #ifdef __cplusplus
 }

@@ -3,8 +3,8 @@
 #
 # Oracle and static library are built and tested, fuzz target and benchmarks too, and the stored answers are made anew and
 # held to the stored ones. Then over a million requests that follow from the seed are asked: scenes, lists of packets, updates,
-# positions, validations, metadata and the texts of name words of the library; scripts of fields and show files of the program
-# replay, which rt ci has built. At the end stands how often each number occurs.
+# positions, validations, metadata, packets of new parents and the texts of name words of the library; scripts of fields and show
+# files of the program replay, which rt ci has built. At the end stands how often each number occurs.
 set -euo pipefail
 cd "$(dirname "$0")/.."
 seed=${1:-2}

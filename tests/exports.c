@@ -255,6 +255,9 @@ void *validation_into(void *place, const PositionSyntax *shapes, size_t shapes_l
     __asm__("gateway_validation");
 void *name_into(void *place, uint64_t word, uint8_t *bytes, size_t bytes_len)
     __asm__("gateway_name");
+void *parents_into(void *place, const PositionSyntax *shapes, size_t shapes_len,
+                   const size_t *parents, size_t parents_len, uint8_t *packet, size_t packet_len)
+    __asm__("gateway_parents");
 #ifdef __cplusplus
 }
 #endif
@@ -303,6 +306,15 @@ static void *refused_name(void *place) {
     return name_into(place, 0, zeros, sizeof zeros);
 }
 
+/* A position that keeps its parent: one bit, which is 0. */
+static void *written_parents(void *place) {
+    return parents_into(place, &none, 1, &none.parent, 1, zeros, sizeof zeros);
+}
+
+static void *refused_parents(void *place) {
+    return parents_into(place, &none, 1, &none.parent, 0, zeros, sizeof zeros);
+}
+
 /* Calls with a place full of one pattern, and of another: a byte that was written is then the same
  * in both. Every byte of a field must be, and none before the place or after its size may be. */
 static void check_result(void *(*call)(void *), size_t size, const bool *of_a_field) {
@@ -337,6 +349,8 @@ static void check_results(void) {
     check_result(read_position, sizeof(GatewayAnswer), of_answer);
     check_result(refused_metadata, sizeof(GatewayAnswer), of_answer);
     check_result(refused_name, sizeof(GatewayAnswer), of_answer);
+    check_result(written_parents, sizeof(GatewayAnswer), of_answer);
+    check_result(refused_parents, sizeof(GatewayAnswer), of_answer);
 
     mark(of_graph, GRAPH_ANSWER, LENGTH(GRAPH_ANSWER));
     EXPECT(memchr(of_graph, false, sizeof of_graph) == NULL);
@@ -617,6 +631,144 @@ static void check_names(void) {
     EXPECT(is_refused(unknown, GATEWAY_UNKNOWN_WORD, 0, 0));
 }
 
+/* Shapes with new parents and bytes for a packet, with a pattern around them. */
+typedef struct {
+    Lent lent;
+    size_t parents[GATEWAY_MAX_POSITIONS + 1];
+    uint8_t before[64];
+    uint8_t packet[128];
+    uint8_t after[64];
+} Wanted;
+
+/* Positions whose parent can change shall lose it or hang on position 1, by turns, and the others
+ * keep theirs. */
+static void want(Wanted *wanted) {
+    memset(wanted, 0xA5, sizeof *wanted);
+    lend(&wanted->lent);
+    for (size_t i = 0; i < LENGTH(wanted->parents); i++)
+        wanted->parents[i] = i % 4 == 2 ? 1 : moved(shape_at(i)).parent;
+}
+
+/* The bits of a position in such a packet. */
+static void put_parent(Input *input, PositionSyntax shape, size_t parent) {
+    put(input, 1, shape.parent != parent); /* updated */
+    if (shape.parent == parent)
+        return;
+    put(input, 1, 1);           /* parent_update */
+    put(input, 1, parent == 0); /* absolute_parent */
+    if (parent != 0)
+        put(input, 6, parent);
+    if (shape.range_dynamic)
+        put(input, 1, 0); /* range_update */
+    put(input, 1, 0);     /* position_present */
+    put(input, 1, 0);     /* rotation_present */
+    put(input, 1, 0);     /* extensions_present */
+}
+
+/* Lends so many shapes, new parents and bytes. Only so many bytes of the packet may be written. */
+static GatewayAnswer write_parents(Wanted *wanted, size_t shapes, size_t parents, size_t room,
+                                   size_t written) {
+    static Wanted original;
+    memcpy(&original, wanted, sizeof original);
+    GatewayAnswer answer = gateway_parents(wanted->lent.shapes, shapes, wanted->parents, parents,
+                                           wanted->packet, room);
+    memcpy(original.packet, wanted->packet, written);
+    EXPECT(memcmp(&original, wanted, sizeof original) == 0);
+    return answer;
+}
+
+/* Packets of every count, written into more bytes than they take, into as many, and into a byte too
+ * few; and read back. */
+static void check_packets(void) {
+    static Wanted wanted;
+    for (size_t count = 0; count <= GATEWAY_MAX_POSITIONS; count++) {
+        Input input = begun_at(0);
+        want(&wanted);
+        for (size_t i = 0; i < count; i++)
+            put_parent(&input, shape_at(i), wanted.parents[i]);
+        size_t bytes = bytes_of(&input);
+        if (bytes > 0) {
+            GatewayAnswer full = write_parents(&wanted, count, count, bytes - 1, 0);
+            EXPECT(is_refused(full, GATEWAY_SHORT_PACKET, 0, 0));
+        }
+        size_t rooms[] = {bytes, sizeof wanted.packet};
+        for (size_t i = 0; i < LENGTH(rooms); i++) {
+            memset(wanted.packet, 0xA5, sizeof wanted.packet);
+            GatewayAnswer written = write_parents(&wanted, count, count, rooms[i], bytes);
+            EXPECT(is_read(written, 0, input.end));
+            EXPECT(memcmp(wanted.packet, input.bytes, bytes) == 0);
+        }
+
+        GatewayGraphAnswer read = update(&input, wanted.lent.shapes, count);
+        EXPECT(is_read(plain(read), input.end, input.fields));
+        for (size_t i = 0; i < count; i++) {
+            PositionSyntax hung = shape_at(i);
+            hung.parent = wanted.parents[i];
+            EXPECT(same(wanted.lent.shapes[i], hung));
+        }
+    }
+}
+
+/* What is refused: first by one question alone, then by one asked before those that refused before
+ * it. Nothing is written. */
+static void check_refused_parents(void) {
+    static Wanted wanted;
+    size_t all = GATEWAY_MAX_POSITIONS, room = sizeof wanted.packet;
+    struct {
+        size_t shapes, parents, room;
+        uint64_t number;
+    } cases[] = {
+        {all, all - 1, room, GATEWAY_PARENT_COUNT}, {all, all + 1, room, GATEWAY_PARENT_COUNT},
+        {0, 1, room, GATEWAY_PARENT_COUNT},         {all + 1, all, room, GATEWAY_PARENT_COUNT},
+        {all, all, 0, GATEWAY_SHORT_PACKET},        {all + 1, all + 1, room, GATEWAY_SHAPE_LIMIT},
+    };
+    want(&wanted);
+    for (size_t i = 0; i < LENGTH(cases); i++) {
+        GatewayAnswer refused = write_parents(&wanted, cases[i].shapes, cases[i].parents,
+                                              cases[i].room, 0);
+        EXPECT(is_refused(refused, cases[i].number, 0, 0));
+    }
+    wanted.parents[2] = 3;
+    EXPECT(is_refused(write_parents(&wanted, all, all, 0, 0), GATEWAY_SCENE_PARENT_CYCLE, 0, 0));
+    wanted.parents[2] = 64;
+    EXPECT(is_refused(write_parents(&wanted, all, all, 0, 0), GATEWAY_SCENE_PARENT, 0, 0));
+    wanted.parents[3] = 0;
+    EXPECT(is_refused(write_parents(&wanted, all, all, 0, 0), GATEWAY_PARENT_FIXED, 0, 0));
+    wanted.lent.shapes[9].rotation_precision = GATEWAY_MAX_PRECISION + 1;
+    EXPECT(is_refused(write_parents(&wanted, all, all, 0, 0), GATEWAY_SHAPE_LIMIT, 0, 0));
+}
+
+/* A position of this shape that is to have this parent, and as many bytes as it takes at most. */
+static GatewayAnswer parent_of(PositionSyntax shape, size_t parent) {
+    uint8_t packet[2];
+    return gateway_parents(&shape, 1, &parent, 1, packet, sizeof packet);
+}
+
+/* Each field of a shape counts but polar, and each byte of its numbers and of a new parent. */
+static void check_parent_fields(void) {
+    for (size_t low = 0; low < 64; low += 8) {
+        size_t large = (size_t)1 << low;
+        PositionSyntax shape = none;
+        shape.parent = large;
+        uint64_t unranked = large == 1 ? GATEWAY_SCENE_PARENT_CYCLE : GATEWAY_SCENE_PARENT;
+        EXPECT(is_refused(parent_of(shape, large), unranked, 0, 0));
+        EXPECT(is_refused(parent_of(shape, 0), GATEWAY_PARENT_FIXED, 0, 0));
+        shape.parent_dynamic = true;
+        EXPECT(is_read(parent_of(shape, 0), 0, 6));
+        shape.range_dynamic = true;
+        EXPECT(is_read(parent_of(shape, 0), 0, 7));
+        shape.parent = 0;
+        EXPECT(is_refused(parent_of(shape, large), unranked, 0, 0));
+        shape.polar = true;
+        EXPECT(is_read(parent_of(shape, 0), 0, 1));
+        shape.position_precision = 32 * large;
+        EXPECT(is_refused(parent_of(shape, 0), GATEWAY_SHAPE_LIMIT, 0, 0));
+        shape.position_precision = 0;
+        shape.rotation_precision = 32 * large;
+        EXPECT(is_refused(parent_of(shape, 0), GATEWAY_SHAPE_LIMIT, 0, 0));
+    }
+}
+
 /* ---- The numbers that were not met above. ---- */
 
 /* The first bytes of an input, with zeros after them, that ends in a number. */
@@ -658,7 +810,7 @@ static Input input_of(Case given) {
 }
 
 static bool has(GatewayAnswer answer, uint64_t number) {
-    bool stops = number >= GATEWAY_ROOM_GEOMETRY_FALLBACK;
+    bool stops = number >= GATEWAY_ROOM_GEOMETRY_FALLBACK && number <= GATEWAY_LZW_WIDTHS;
     return answer.outcome == (stops ? GATEWAY_STOPPED : GATEWAY_REFUSED) && answer.number == number;
 }
 
@@ -737,6 +889,9 @@ int main(void) {
     check_worked_example();
     check_recordings();
     check_names();
+    check_packets();
+    check_refused_parents();
+    check_parent_fields();
     check_cases();
     check_input_limit();
     check_field_limit();

@@ -1,6 +1,7 @@
 //! Answers in the words of document 01, and the text lines that carry them.
+use crate::bits::Bits;
 use crate::request::{Shape, shape_list};
-use crate::text::{joined, or_none};
+use crate::text::{hex, joined, or_none};
 use apac::numbers::{self, REFUSALS, STOPS};
 use apac::run::End;
 use apac::{ConfigField, DigestUnit, FieldValue};
@@ -41,8 +42,8 @@ pub struct Verdict {
 pub struct Answer {
     pub kind: &'static str,
     pub verdict: Verdict,
-    /// The fields counted, the length of a text, or the number of a list's packets. With recording
-    /// off no field is listed.
+    /// The fields counted, the length of a text, the bits of a packet that was written, or the number
+    /// of a list's packets. With recording off no field is listed.
     pub count: usize,
     /// The largest rank of the shapes that a scene, an update or a validation accepts, 0 unless it
     /// is read. Other kinds have none.
@@ -51,6 +52,8 @@ pub struct Answer {
     pub fields: Vec<Field>,
     /// The text of a name that was read, or what is printed for a show.
     pub text: Option<String>,
+    /// The bytes of a packet that was written.
+    pub packet: Vec<u8>,
     /// Of a list the answers of its scene and of its updates.
     pub packets: Vec<Answer>,
 }
@@ -129,6 +132,7 @@ impl Answer {
             shapes: given.to_vec(),
             fields: Vec::new(),
             text: None,
+            packet: Vec::new(),
             packets: Vec::new(),
         }
     }
@@ -144,6 +148,15 @@ impl Answer {
             count: length,
             text,
             ..Self::bare(kind, verdict, &[])
+        }
+    }
+
+    /// The answer of new parents, for which this packet was written.
+    pub fn of_packet(bits: &Bits) -> Self {
+        Self {
+            count: bits.len(),
+            packet: bits.bytes(),
+            ..Self::bare("parents", Verdict::without_number(Outcome::Read), &[])
         }
     }
 
@@ -208,6 +221,7 @@ impl fmt::Display for Answer {
         )?;
         match &self.text {
             Some(text) => f.write_str(&text.replace('\n', "/")),
+            None if !self.packet.is_empty() => f.write_str(&hex(&self.packet)),
             None if self.packets.is_empty() => {
                 f.write_str(&joined(self.fields.iter().map(Field::to_string), ";"))
             }

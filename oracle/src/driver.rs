@@ -2,6 +2,7 @@
 use crate::answer::{Answer, Field, Outcome, Verdict};
 use crate::label;
 use crate::names;
+use crate::parents;
 use crate::ranks;
 use crate::request::{Call, Input, List, Question, Request, Shape};
 use crate::show;
@@ -34,6 +35,11 @@ pub fn answer(request: &Request) -> Answer {
         Request::Call(call) => answer_call(call),
         Request::List(list) => answer_list(list),
         Request::Validation { at, shapes } => answer_validation(*at, shapes),
+        Request::Parents {
+            shapes,
+            parents,
+            room,
+        } => parents::answer(shapes, parents, *room as usize),
         Request::Name { word, room } => answer_name(*word, *room as usize),
         Request::Show { bytes } => show::answer(bytes),
     }
@@ -131,16 +137,21 @@ fn answer_call(call: &Call) -> Answer {
 
 /// Questions 1 and 2. The Rust itself asks whether the offset is inside the input.
 fn entry_refusal(call: &Call) -> Option<u8> {
-    let shapes = call.question.shapes();
-    let too_precise =
-        |shape: &Shape| shape.position_precision.max(shape.rotation_precision) > GREATEST_PRECISION;
     if call.bytes.len() > GREATEST_INPUT {
         Some(1)
-    } else if shapes.len() > GREATEST_COUNT || shapes.iter().any(too_precise) {
+    } else if !are_few_and_coarse(call.question.shapes()) {
         Some(2)
     } else {
         None
     }
+}
+
+/// Question 2 of shapes that are updated.
+pub(crate) fn are_few_and_coarse(shapes: &[Shape]) -> bool {
+    let is_coarse = |shape: &Shape| {
+        shape.position_precision.max(shape.rotation_precision) <= GREATEST_PRECISION
+    };
+    shapes.len() <= GREATEST_COUNT && shapes.iter().all(is_coarse)
 }
 
 /// The run of the Rust, if recording or not makes no difference to it.

@@ -9,6 +9,7 @@ pub mod generate;
 mod label;
 pub mod listing;
 pub mod names;
+mod parents;
 pub mod program;
 mod ranks;
 pub mod record;

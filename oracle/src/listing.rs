@@ -412,11 +412,11 @@ refused 9 at 13: a chain of parents closes a circle
         }
     }
 
-    /// A number that the Rust can give has words, and so have those that document 01 adds.
+    /// A number that the Rust can give has words, and so have those that documents 01 and 02 add.
     #[test]
     fn every_number_has_words() {
         let given = REFUSALS.iter().chain(&STOPS).map(|row| row.0);
-        let mut numbers: Vec<u8> = given.chain([1, 2, 5, 23, 24, 25, 26]).collect();
+        let mut numbers: Vec<u8> = given.chain([1, 2, 5, 23, 24, 25, 26, 36, 37, 38]).collect();
         numbers.sort();
         let rows: Vec<u8> = PAPER.lines().filter_map(row).map(|row| row.0).collect();
         assert_eq!(rows, numbers);

@@ -6,7 +6,7 @@ use crate::request::{Call, Question, Request, Shape};
 use apac::run::{Action, Op};
 
 /// The kinds of requests that have records; the first byte of a record is the place of its kind here.
-const KINDS: [&str; 8] = [
+const KINDS: [&str; 9] = [
     "fields",
     "scene",
     "update",
@@ -15,6 +15,7 @@ const KINDS: [&str; 8] = [
     "metadata",
     "name",
     "show",
+    "parents",
 ];
 
 /// The record of a request and the oracle's answer.
@@ -33,11 +34,13 @@ pub fn record_with(request: &Request, answer: &Answer) -> Result<Vec<u8>, String
 }
 
 /// Kind, recording, room, offset, length of the input, and a number that each kind has of its own.
-/// In the place of the offset a validation has its position, and a name its word.
+/// In the place of the offset a validation has its position, a name its word, and new parents their
+/// number.
 fn put_arguments(record: &mut Vec<u8>, request: &Request) -> Result<(), String> {
     let (recording, room, offset, bytes) = match request {
         Request::Call(call) => (call.recording, call.room, call.offset, call.bytes.len()),
         Request::Validation { at, .. } => (false, 0, *at, 0),
+        Request::Parents { parents, room, .. } => (false, *room, parents.len() as u64, 0),
         Request::Name { word, room } => (false, *room, *word, 0),
         Request::Show { bytes } => (false, 0, 0, bytes.len()),
         Request::List(_) => return Err("no such kind of record: list".into()),
@@ -68,7 +71,8 @@ fn question(request: &Request) -> Option<&Question> {
     }
 }
 
-/// The outcome with its number and position, and the count of fields or the length of a text.
+/// The outcome with its number and position, and the count of fields, or the length of a text or of
+/// a packet.
 fn put_end(record: &mut Vec<u8>, answer: &Answer) -> Result<(), String> {
     let verdict = &answer.verdict;
     record.push(outcome_code(&verdict.outcome)?);
@@ -91,7 +95,7 @@ fn outcome_code(outcome: &Outcome) -> Result<u8, String> {
     }
 }
 
-/// The input, and the operations or the shapes that were handed in.
+/// The input, and the operations or the shapes that were handed in, or all shapes and new parents.
 fn put_given(record: &mut Vec<u8>, request: &Request) -> Result<(), String> {
     if let Request::Call(Call { bytes, .. }) | Request::Show { bytes } = request {
         record.extend_from_slice(bytes);
@@ -99,11 +103,20 @@ fn put_given(record: &mut Vec<u8>, request: &Request) -> Result<(), String> {
     if let Some(Question::Fields(ops)) = question(request) {
         ops.iter().for_each(|op| put_op(record, op));
     }
-    put_shapes(record, request.shapes())
+    let Request::Parents {
+        shapes, parents, ..
+    } = request
+    else {
+        return put_shapes(record, request.shapes());
+    };
+    let mut shapes = shapes.iter();
+    shapes.try_for_each(|shape| put_shape(record, shape))?;
+    let mut parents = parents.iter();
+    parents.try_for_each(|&parent| put_parent(record, parent))
 }
 
 /// The largest rank, the shapes after the call, a scene's with their number before them, the
-/// fields, the text of a name or a show.
+/// fields, the text of a name or a show, a packet.
 fn put_result(record: &mut Vec<u8>, answer: &Answer) -> Result<(), String> {
     if let Some(deepest) = answer.deepest {
         record.push(fitting::<u8>(deepest)?);
@@ -117,6 +130,7 @@ fn put_result(record: &mut Vec<u8>, answer: &Answer) -> Result<(), String> {
         .iter()
         .try_for_each(|field| put_field(record, field))?;
     record.extend(answer.text.iter().flat_map(|text| text.bytes()));
+    record.extend_from_slice(&answer.packet);
     Ok(())
 }
 
@@ -150,7 +164,11 @@ fn put_shape(record: &mut Vec<u8>, shape: &Shape) -> Result<(), String> {
     for precision in [shape.position_precision, shape.rotation_precision] {
         record.extend(fitting::<u32>(precision)?.to_be_bytes());
     }
-    record.extend(fitting::<u64>(shape.parent)?.to_be_bytes());
+    put_parent(record, shape.parent)
+}
+
+fn put_parent(record: &mut Vec<u8>, parent: usize) -> Result<(), String> {
+    record.extend(fitting::<u64>(parent)?.to_be_bytes());
     Ok(())
 }
 
@@ -267,12 +285,24 @@ mod tests {
     }
 
     #[test]
+    fn parents() {
+        let head = "08_00_00000009_0000000000000002_00000000_0002_00_00_0000000000000000_00000007";
+        let news = "0000000000000000".repeat(2);
+        let line = "parents 9 1:0:0:0:0:0,1:0:0:0:1:0 0,0";
+        check(line, &[&plain(head), STILL, HUNG, &news, "70"]);
+        let head = "08_00_00000000_0000000000000001_00000000_0002_01_24_0000000000000000_00000000";
+        let line = "parents 0 1:0:0:0:0:0,1:0:0:0:1:0 18446744073709551615";
+        check(line, &[&plain(head), STILL, HUNG, "ffffffffffffffff"]);
+    }
+
+    #[test]
     fn lists_have_no_records() {
         let list = Request::parse("list 0 0 0:00 -").expect("a request");
         assert_eq!(record(&list), Err("no such kind of record: list".into()));
     }
 
-    /// No more shapes than 63 are written, and their true number.
+    /// No more shapes than 63 are written, and their true number; but all those that are to have new
+    /// parents.
     #[test]
     fn too_many_shapes() {
         let shapes = vec!["0:0:0:0:0:0"; 70].join(",");
@@ -284,6 +314,9 @@ mod tests {
             assert_eq!(record.len(), 34 + 20 * written + 1);
             assert_eq!(record[18..20], [0, 70]);
         }
+        let record = recorded(&format!("parents 0 {shapes} 0,0"));
+        assert_eq!(record.len(), 34 + 20 * 70 + 8 * 2);
+        assert_eq!(record[18..20], [0, 70]);
     }
 
     #[test]

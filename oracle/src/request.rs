@@ -52,6 +52,13 @@ pub enum Request {
         at: u64,
         shapes: Vec<Shape>,
     },
+    /// The packet that hangs the shapes on these parents, with the number of bytes that are lent for
+    /// it.
+    Parents {
+        shapes: Vec<Shape>,
+        parents: Vec<usize>,
+        room: u32,
+    },
     /// The text of a name word, with the number of bytes that are lent for it.
     Name {
         word: u64,
@@ -90,6 +97,7 @@ impl Request {
             Self::Call(call) => call.question.kind(),
             Self::List(_) => "list",
             Self::Validation { .. } => "validation",
+            Self::Parents { .. } => "parents",
             Self::Name { .. } => "name",
             Self::Show { .. } => "show",
         }
@@ -99,7 +107,7 @@ impl Request {
     pub fn shapes(&self) -> &[Shape] {
         match self {
             Self::Call(call) => call.question.shapes(),
-            Self::Validation { shapes, .. } => shapes,
+            Self::Validation { shapes, .. } | Self::Parents { shapes, .. } => shapes,
             Self::List(_) | Self::Name { .. } | Self::Show { .. } => &[],
         }
     }
@@ -112,6 +120,11 @@ impl Request {
             "validation" => Self::Validation {
                 at: number(words.next()?)?,
                 shapes: parse_shapes(words.next()?)?,
+            },
+            "parents" => Self::Parents {
+                room: number(words.next()?)?,
+                shapes: parse_shapes(words.next()?)?,
+                parents: list(words.next()?).map(number).collect::<Result<_, _>>()?,
             },
             "name" => Self::Name {
                 word: number(words.next()?)?,
@@ -212,6 +225,14 @@ impl fmt::Display for Request {
             Self::Call(call) => call.fmt(f),
             Self::List(list) => list.fmt(f),
             Self::Validation { at, shapes } => write!(f, "validation {at} {}", shape_list(shapes)),
+            Self::Parents {
+                shapes,
+                parents,
+                room,
+            } => {
+                let parents = joined(parents.iter().map(usize::to_string), ",");
+                write!(f, "parents {room} {} {parents}", shape_list(shapes))
+            }
             Self::Name { word, room } => write!(f, "name {word} {room}"),
             Self::Show { bytes } => write!(f, "show {}", hex(bytes)),
         }

@@ -8,7 +8,7 @@ use std::fmt;
 /// The kinds of requests with the numbers that each can give, beside 1, which takes an input of more
 /// than 8 MiB. Of a list its scene counts as one answer, and each of its updates. Scripts can be told
 /// to end in any number, so that none is asked of them.
-const ENDS: [(&str, &[u8]); 10] = [
+const ENDS: [(&str, &[u8]); 11] = [
     ("scene", &[0, 3, 5, 6, 7, 8, 9]),
     ("update", &[0, 2, 3, 5, 7, 8, 9]),
     ("position", &[0, 2, 3, 5, 7]),
@@ -20,6 +20,7 @@ const ENDS: [(&str, &[u8]); 10] = [
         ],
     ),
     ("validation", &[0, 2, 8, 9]),
+    ("parents", &[0, 2, 8, 9, 36, 37, 38]),
     ("name", &[0, 25, 26]),
     ("show", &[0, 23, 24]),
     ("list scene", &[0, 3, 5, 6, 7, 8, 9]),
@@ -30,8 +31,8 @@ const ENDS: [(&str, &[u8]); 10] = [
 /// Each of these is to be reached at least so often.
 const ENOUGH: usize = 5;
 
-/// Read, and the questions that document 01 adds.
-const ADDED: [u8; 8] = [0, 1, 2, 5, 23, 24, 25, 26];
+/// Read, and the questions that documents 01 and 02 add.
+const ADDED: [u8; 11] = [0, 1, 2, 5, 23, 24, 25, 26, 36, 37, 38];
 
 /// The place of a list's packets in its answer line, counted from 0.
 const PACKETS: usize = 8;
@@ -204,12 +205,12 @@ mod tests {
         let mut table = Table::default();
         table.count(&answer).expect("an answer");
         for table in [table, counted(&[(1, &answer.to_string())])] {
-            let packets = |number| [table.row(number)[7], table.row(number)[8]];
+            let packets = |number| [table.row(number)[8], table.row(number)[9]];
             assert_eq!(
                 [packets(0), packets(3), packets(9)],
                 [[1, 1], [0, 1], [0, 1]]
             );
-            assert_eq!(table.sums(), [0, 0, 0, 0, 0, 0, 0, 1, 3, 0]);
+            assert_eq!(table.sums(), [0, 0, 0, 0, 0, 0, 0, 0, 1, 3, 0]);
         }
     }
 

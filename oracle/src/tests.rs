@@ -261,11 +261,88 @@ fn largest_ranks() {
     assert_eq!(deepest(&format!("validation 7 {shapes}")), Some(0));
 }
 
+/// Document 01's show backwards: the packets that its parts are. The last two refused for the buffer,
+/// and for the circle that part 1 would close.
+#[test]
+fn parents() {
+    let (before, freed) = ("1:0:0:0:0:0,1:0:0:0:1:0", "1:0:0:0:0:0,1:0:0:0:0:0");
+    for (shapes, parents, room, expected) in [
+        (before, "0,0", 1, "read 0 0 7 - 0 - 70"),
+        (freed, "2,0", 9, "read 0 0 13 - 0 - c100"),
+        (freed, "2,0", 1, "refused 38 0 0 - 0 - -"),
+        (before, "2,1", 0, "refused 9 0 0 - 0 - -"),
+    ] {
+        let line = format!("parents {room} {shapes} {parents}");
+        assert_eq!(ask(&line).to_string(), format!("parents {expected}"));
+    }
+}
+
+/// Nothing to do takes a bit for each position, so none where there are none.
+#[test]
+fn parents_that_stay() {
+    let shapes = |count| vec!["0:1:24:24:0:1"; count].join(",");
+    let still = |count| format!("{} {}", shapes(count), vec!["0"; count].join(","));
+    assert_eq!(verdict("parents 0 - -"), "read 0 0 0");
+    assert_eq!(verdict(&format!("parents 8 {}", still(63))), "read 0 0 63");
+    assert_eq!(
+        verdict(&format!("parents 7 {}", still(63))),
+        "refused 38 0 0"
+    );
+    assert_eq!(
+        verdict(&format!("parents 8 {}", still(64))),
+        "refused 2 0 0"
+    );
+    assert_eq!(
+        verdict(&format!("parents 8 {} 0", shapes(2))),
+        "refused 36 0 0"
+    );
+    assert_eq!(verdict("parents 9 0:0:0:0:1:0 1"), "refused 9 0 0");
+    assert_eq!(verdict("parents 9 0:0:0:0:70:0 70"), "refused 8 0 0");
+}
+
+/// Whatever the old parent was. A range that can change takes a bit more.
+#[test]
+fn parents_that_change() {
+    let past = u64::MAX;
+    for (shape, parent, expected) in [
+        ("1:0:0:0:1:0".into(), 0, "read 0 0 6 - 0 - e0"),
+        ("1:1:0:0:1:0".into(), 0, "read 0 0 7 - 0 - e0"),
+        (format!("1:1:24:24:{past}:1"), 0, "read 0 0 7 - 0 - e0"),
+        (format!("0:1:24:24:{past}:1"), 0, "refused 37 0 0 - 0 - -"),
+        ("1:0:0:0:0:0".into(), 64, "refused 8 0 0 - 0 - -"),
+        ("1:0:0:0:0:0".into(), past, "refused 8 0 0 - 0 - -"),
+        ("0:0:0:0:0:0".into(), past, "refused 37 0 0 - 0 - -"),
+    ] {
+        let line = ask(&format!("parents 1 {shape} {parent}")).to_string();
+        assert_eq!(line, format!("parents {expected}"), "{shape} {parent}");
+    }
+}
+
+#[test]
+fn lines_of_parents() {
+    for line in [
+        "parents 0 - -",
+        "parents 9 1:0:0:0:0:0 18446744073709551615,0",
+    ] {
+        let parents = Request::parse(line).expect("a request");
+        assert_eq!(parents.to_string(), line);
+    }
+    for line in [
+        "parents 0 -",
+        "parents 0 - - -",
+        "parents 0 - 0,",
+        "parents - - -",
+    ] {
+        assert!(Request::parse(line).is_err(), "{line}");
+    }
+}
+
 #[test]
 fn kinds_without_a_largest_rank() {
     for line in [
         "position 0 0 0 1 0:0:0:0:0:0 00000000",
         "metadata 0 0 0 40",
+        "parents 0 - -",
         "name 257 27",
         "show 00",
         "fields 0 0 0 f@1 00",

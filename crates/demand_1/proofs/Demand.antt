@@ -37,7 +37,7 @@ use Rattle.exported.specs.declared.GatewayAnswer.{GatewayAnswer}
 use Rattle.exported.specs.declared.GatewayGraphAnswer.{GatewayGraphAnswer}
 use Rattle.gateway.specs.declared.GatewayScene.{GatewayScene}
 use Rattle.exported.specs.Exported.{gateway_answer, exported_graph, Exported}
-use Rattle.gateway.specs.Exported.{SceneExported, NameExported}
+use Rattle.gateway.specs.Exported.{SceneExported, NameExported, ParentsExported}
 use Rattle.known_names.specs.Known.{Explained}
 use Rattle.known_names.proofs.Update.{update_known}
 use Rattle.known_names.proofs.Explained.{explained, scene_explained, update_explained, position_explained, metadata_explained}
@@ -49,9 +49,10 @@ use Rattle.show_parts.specs.Parts.{packet}
 use Rattle.part_fields.specs.declared.NotRead.{NotRead}
 use Rattle.part_fields.specs.Part.{Listed, listed, shapes_before, part_from, update_listed, sound_listed, part_listed, PartAnswered}
 use Rattle.listing_claims.proofs.Printed.{part_explained}
-use Rattle.demand_1.specs.Demand.{KeptFrom, Kept, SceneKept, UpdateKept, Validated, NameKept, LentKept, Said, SaidOfGraph, AnswerCrossed, GraphCrossed, PartKept, Demand1}
+use Rattle.demand_1.specs.Demand.{KeptFrom, Kept, SceneKept, UpdateKept, Validated, NameKept, PacketKept, LentKept, Said, SaidOfGraph, AnswerCrossed, GraphCrossed, PartKept, Demand1}
 use Rattle.demand_1.proofs.Kept.{entry_place, reading_kept, call_kept}
 use Rattle.demand_1.proofs.Texts.{name_kept, show_kept}
+use Rattle.demand_1.proofs.Packets.{parents_kept}
 
 module _ (bs : List ℕ) (offset : ℕ) (rec : Bool) (ws : List ℕ) {vs : List ℕ} where
   module _ {r : SceneAnswer} (m : SceneAnswered (scene_reading (input_of bs rec ws) offset) rec ws r vs) where
@@ -156,6 +157,10 @@ name_exported : {word : ℕ} {bytes : List ℕ} {r : GatewayAnswer} {after : Lis
     NameExported word (name_question word (length bytes)) bytes r after → AnswerCrossed (NameKept bytes after) r
 name_exported {bytes = bytes} {after = after} m = crosses (NameKept bytes after) m.same (name_kept m.named)
 
+parents_exported : {shapes : List PositionSyntax} {parents bytes : List ℕ} {r : GatewayAnswer} {after : List ℕ} →
+    ParentsExported shapes parents bytes r after → AnswerCrossed (PacketKept bytes after) r
+parents_exported {bytes = bytes} {after = after} m = crosses (PacketKept bytes after) m.same (parents_kept m.written)
+
 -- A part, whose number has a meaning, if it was read
 module _ (file : List ℕ) (k offset : ℕ) (ws : List ℕ) where
   abbrev PartSaid : Listed → Type 0
@@ -195,6 +200,7 @@ demand_1 = record {
   metadata = λ bs offset rec ws r vs m. call_kept bs rec ws _ offset _ (metadata_explained _ offset) m;
   validation = λ count shapes at r e. rw e (validation_kept count shapes at);
   name = λ word bytes r after m. name_kept m;
+  parents = λ shapes parents bytes r after m. parents_kept m;
   exported_scene = λ bs offset rec ws r vs m. scene_exported bs offset rec ws m;
   exported_update = λ bs offset rec ws shapes next r vs m. graph_crosses (LentKept bs rec ws shapes next vs) m.same (lent_kept bs offset rec ws shapes next m.answered);
   exported_position =
@@ -203,6 +209,7 @@ demand_1 = record {
       λ bs offset rec ws r vs m. exported_kept (Kept bs rec ws tt tt vs) m (λ b a. call_kept bs rec ws _ offset _ (metadata_explained _ offset) a);
   exported_validation = λ shapes at r e. graph_crosses (Validated (length shapes) shapes at) e (validation_kept (length shapes) shapes at);
   exported_name = λ word bytes r after m. name_exported m;
+  exported_parents = λ shapes parents bytes r after m. parents_exported m;
   part = λ file k offset ws r vs m. part_kept file k offset ws m;
   show = λ file before r after m. show_kept m;
 }

@@ -1,3 +1,4 @@
 pub mod Kept
 pub mod Texts
 pub mod Demand
+pub mod Packets

@@ -1,10 +1,11 @@
 -- Demand 1, of every call: what it may answer, and what it leaves of all that it was lent. docs/DECISIONS.md holds it beside the
 -- customer's words.
-use Rattle.std.specs.Prelude.{ℕ, ◌*◌, ◌≤◌, ◌<◌, ◌≡◌, List, Bool, true, false, ◌⊎◌, length, take, drop, Result, Ok, Err}
+use Rattle.std.specs.Prelude.{ℕ, ◌*◌, ◌≤◌, ◌<◌, ◌≡◌, List, [], ◌∷◌, Bool, true, false, ◌⊎◌, length, take, drop, Result, Ok, Err}
 use Rattle.rules.specs.declared.Answer.{Answer}
 use Rattle.rules.specs.declared.Outcome.{Outcome}
 use Rattle.rules.specs.declared.Outcome.TheVariants.{Read, Refused}
 use Rattle.rules.specs.Reading.{is_read}
+use Rattle.rules.specs.Derived.{among}
 use Rattle.rules.specs.Answer.{outcome_number, input_of, Answered}
 use Rattle.position.specs.declared.PositionSyntax.{PositionSyntax}
 use Rattle.position_alone.specs.Entry.{position_reading}
@@ -17,11 +18,14 @@ use Rattle.update.specs.Update.{update_reading, UpdateAnswered}
 use Rattle.metadata.specs.Entry.{metadata_reading}
 use Rattle.text.specs.declared.TextAnswer.{TextAnswer}
 use Rattle.names.specs.NameAnswer.{name_question, NameAnswered}
+use Rattle.bit_writer.specs.Bits.{bytes_for}
+use Rattle.parent_writer.specs.declared.PacketAnswer.{PacketAnswer}
+use Rattle.parent_writer.specs.ParentWriter.{ParentsWritten}
 use Rattle.exported.specs.declared.GatewayAnswer.{GatewayAnswer}
 use Rattle.exported.specs.declared.GatewayGraphAnswer.{GatewayGraphAnswer}
 use Rattle.gateway.specs.declared.GatewayScene.{GatewayScene}
 use Rattle.exported.specs.Exported.{outcome_code, exported_graph, Exported, GraphExported}
-use Rattle.gateway.specs.Exported.{SceneExported, NameExported}
+use Rattle.gateway.specs.Exported.{SceneExported, NameExported, ParentsExported}
 use Rattle.known_names.specs.Known.{Explained}
 use Rattle.show_header.specs.Header.{part_of}
 use Rattle.show.specs.Show.{ShowAnswered}
@@ -80,6 +84,15 @@ pub record NameKept (came left : List ℕ) (o : Outcome) (position put : ℕ) : 
   pub kept : TextKept 25 26 came left o position put
   pub unread : (n : ℕ) → o ≡ Refused n → left ≡ came
 
+-- The packet of new parents, of `put` bits at the beginning of lent bytes: refused, there is none, and the bytes are as they came.
+pub record PacketKept (came left : List ℕ) (o : Outcome) (position put : ℕ) : Type 0 where
+  pub number : (o ≡ Read) ⊎ ((n : ℕ) × (o ≡ Refused n) × (among n (36 ∷ 2 ∷ 37 ∷ 8 ∷ 9 ∷ 38 ∷ []) ≡ true))
+  pub place : position ≡ 0
+  pub unread : is_read o ≡ false → (put ≡ 0) × (left ≡ came)
+  pub room : bytes_for put ≤ length came
+  pub rest : KeptFrom (bytes_for put) came left
+  pub as_many : length left ≡ length came
+
 -- P of the outcome, the position and the fields of an answer; with the largest rank; ..
 abbrev pub Said : (Outcome → ℕ → ℕ → Type 0) → Answer → Type 0
 Said P a = P a.outcome a.position a.fields
@@ -89,6 +102,9 @@ SaidOfGraph P g = P g.answer.outcome g.answer.position g.answer.fields g.deepest
 
 abbrev pub SaidOfText : (Outcome → ℕ → ℕ → Type 0) → TextAnswer → Type 0
 SaidOfText P a = P a.outcome a.position a.length
+
+abbrev pub SaidOfPacket : (Outcome → ℕ → ℕ → Type 0) → PacketAnswer → Type 0
+SaidOfPacket P a = P a.outcome a.position a.length
 
 -- .. and of one that crosses to C and Rust: of the outcome that its two numbers tell
 pub record Crossed (P : Outcome → Type 0) (code number : ℕ) : Type 0 where
@@ -134,7 +150,10 @@ pub record Demand1 : Type 0 where
   -- `names::name_text`
   pub name : (word : ℕ) (bytes : List ℕ) (r : TextAnswer) (after : List ℕ) →
       NameAnswered word (name_question word (length bytes)) bytes r after → SaidOfText (NameKept bytes after) r
-  -- `gateway_scene`, `gateway_update`, `gateway_position`, `gateway_metadata`, `gateway_validation` and `gateway_name`
+  -- `parent_writer::write_parents`
+  pub parents : (shapes : List PositionSyntax) (parents bytes : List ℕ) (r : PacketAnswer) (after : List ℕ) →
+      ParentsWritten shapes parents bytes r after → SaidOfPacket (PacketKept bytes after) r
+  -- `gateway_scene`, `gateway_update`, `gateway_position`, `gateway_metadata`, `gateway_validation`, `gateway_name` and `gateway_parents`
   pub exported_scene : (bs : List ℕ) (offset : ℕ) (rec : Bool) (ws : List ℕ) (r : GatewayScene) (vs : List ℕ) →
       SceneExported (scene_reading (input_of bs rec ws) offset) rec ws r vs → GraphCrossed (SceneKept bs rec ws r.count r.shapes vs) r.answer
   pub exported_update : (bs : List ℕ) (offset : ℕ) (rec : Bool) (ws : List ℕ) (shapes next : List PositionSyntax) (r : GatewayGraphAnswer) (vs : List ℕ) →
@@ -148,6 +167,8 @@ pub record Demand1 : Type 0 where
       r ≡ exported_graph (graph_answer (validation_reading (length shapes) shapes at)) → GraphCrossed (Validated (length shapes) shapes at) r
   pub exported_name : (word : ℕ) (bytes : List ℕ) (r : GatewayAnswer) (after : List ℕ) →
       NameExported word (name_question word (length bytes)) bytes r after → AnswerCrossed (NameKept bytes after) r
+  pub exported_parents : (shapes : List PositionSyntax) (parents bytes : List ℕ) (r : GatewayAnswer) (after : List ℕ) →
+      ParentsExported shapes parents bytes r after → AnswerCrossed (PacketKept bytes after) r
   -- `part_fields::read_part`: the position is one of the part
   pub part : (file : List ℕ) (k offset : ℕ) (ws : List ℕ) (r : Result Answer NotRead) (vs : List ℕ) →
       PartAnswered (part_listed file k (part_from file k offset ws)) ws r vs → PartKept (part_of file k) ws r vs

@@ -9,7 +9,7 @@ use rules::{Answer, Outcome};
 use validation::GraphAnswer;
 
 // An answer: the outcome is 0 if read, 1 if refused and 2 if stopped, and the number 0 if read. Counted are the fields of a
-// reading, or the bytes of a name's text.
+// reading, the bytes of a name's text, or the bits of a packet.
 #[repr(C)]
 #[derive(Clone, Copy)]
 pub struct GatewayAnswer {
@@ -30,7 +30,7 @@ pub struct GatewayGraphAnswer {
     pub deepest: usize,
 }
 
-// The outcome as a number, and document 01's number with it.
+// The outcome as a number, and the papers' number with it.
 fn outcome_code(outcome: Outcome) -> u64
     ensures { result ≡ outcome_code outcome }
 {

@@ -1,4 +1,4 @@
--- A scene and the answer of a name as they cross to C and Rust: each promise is that of the answer inside.
+-- A scene, and the answers of a name and of new parents, as they cross to C and Rust: each promise is that of the answer inside.
 use Rattle.std.specs.Prelude.{ℕ, ◌≡◌, List, Bool}
 use Rattle.rules.specs.Reading.{Reading}
 use Rattle.position.specs.declared.PositionSyntax.{PositionSyntax}
@@ -6,6 +6,8 @@ use Rattle.scene.specs.declared.SceneAnswer.{SceneAnswer}
 use Rattle.scene.specs.Scene.{SceneAnswered}
 use Rattle.text.specs.declared.TextAnswer.{TextAnswer}
 use Rattle.names.specs.NameAnswer.{NameAnswered}
+use Rattle.parent_writer.specs.declared.PacketAnswer.{PacketAnswer}
+use Rattle.parent_writer.specs.ParentWriter.{ParentsWritten}
 use Rattle.exported.specs.declared.GatewayAnswer.{GatewayAnswer}
 use Rattle.exported.specs.Exported.{gateway_answer, exported_graph}
 use Rattle.gateway.specs.declared.GatewayScene.{GatewayScene}
@@ -18,4 +20,9 @@ pub record SceneExported (x : Reading (List PositionSyntax)) (rec : Bool) (ws : 
 pub record NameExported (w number : ℕ) (bytes : List ℕ) (r : GatewayAnswer) (after : List ℕ) : Type 0 where
   pub answer : TextAnswer
   pub named : NameAnswered w number bytes answer after
+  pub same : r ≡ gateway_answer answer.outcome answer.position answer.length
+
+pub record ParentsExported (shapes : List PositionSyntax) (parents before : List ℕ) (r : GatewayAnswer) (after : List ℕ) : Type 0 where
+  pub answer : PacketAnswer
+  pub written : ParentsWritten shapes parents before answer after
   pub same : r ≡ gateway_answer answer.outcome answer.position answer.length

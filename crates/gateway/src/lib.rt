@@ -1,5 +1,5 @@
-// What a gateway calls from C or Rust: the readings as functions over numbers, slices and plain structs. None asks anything of
-// its caller. include/gateway.h says what they do; the crate gateway_c exports them.
+// What a gateway calls from C or Rust: functions over numbers, slices and plain structs. None asks anything of its caller.
+// include/gateway.h says what they do; the crate gateway_c exports them.
 #![tactic(auto)]
 
 ghost use Rattle.std.specs.Prelude.{◌≡◌, length};
@@ -11,7 +11,7 @@ ghost use Rattle.update.specs.Update.{update_reading};
 ghost use Rattle.metadata.specs.Entry.{metadata_reading};
 ghost use Rattle.names.specs.NameAnswer.{name_question};
 ghost use Rattle.exported.specs.Exported.{exported_graph, Exported, GraphExported};
-ghost use Rattle.gateway.specs.Exported.{SceneExported, NameExported};
+ghost use Rattle.gateway.specs.Exported.{SceneExported, NameExported, ParentsExported};
 
 use exported::{GatewayAnswer, GatewayGraphAnswer};
 use position::PositionSyntax;
@@ -83,6 +83,19 @@ pub fn gateway_validation(shapes: &[PositionSyntax], at: usize) -> GatewayGraphA
 {
     let a = lent::validate_graph(&shapes[..], at);
     exported::exported_graph(a)
+}
+
+// `parent_writer::write_parents`
+pub fn gateway_parents(
+    shapes: &[PositionSyntax],
+    parents: &[usize],
+    packet: &mut [u8],
+) -> GatewayAnswer
+    ensures { ParentsExported shapes.now parents.now packet.old result packet.new }
+{
+    let written = parent_writer::write_parents(shapes, parents, packet);
+    let outcome = written.outcome;
+    exported::gateway_answer(outcome, written.position, written.length)
 }
 
 // `metadata::read_metadata`

@@ -11,7 +11,7 @@ ghost use Rattle.update.specs.Update.{update_reading};
 ghost use Rattle.metadata.specs.Entry.{metadata_reading};
 ghost use Rattle.names.specs.NameAnswer.{name_question};
 ghost use Rattle.exported.specs.Exported.{exported_graph, Exported, GraphExported};
-ghost use Rattle.gateway.specs.Exported.{SceneExported, NameExported};
+ghost use Rattle.gateway.specs.Exported.{SceneExported, NameExported, ParentsExported};
 
 use exported::{GatewayAnswer, GatewayGraphAnswer};
 use gateway::GatewayScene;
@@ -69,6 +69,18 @@ pub extern "C" fn gateway_validation(shapes: &[PositionSyntax], at: usize) -> Ga
     ensures { result ≡ exported_graph (graph_answer (validation_reading (length shapes.now) shapes.now at)) }
 {
     gateway::gateway_validation(shapes, at)
+}
+
+// `gateway::gateway_parents`
+#[unsafe(no_mangle)]
+pub extern "C" fn gateway_parents(
+    shapes: &[PositionSyntax],
+    parents: &[usize],
+    packet: &mut [u8],
+) -> GatewayAnswer
+    ensures { ParentsExported shapes.now parents.now packet.old result packet.new }
+{
+    gateway::gateway_parents(shapes, parents, packet)
 }
 
 // `gateway::gateway_metadata`

@@ -5,6 +5,7 @@ pub mod Counted
 pub mod Free
 pub mod Front
 pub mod Back
+pub mod Entered
 pub mod Tiles
 pub mod Names
 pub mod Named

@@ -5,16 +5,17 @@ use mathlib.Core.List.{List, [], ◌∷◌}
 use mathlib.Core.Bool.{Bool}
 use mathlib.Core.Logic.{inl, inr}
 use native.Mathlib.Omega.{arith}
-use lib.Dec.{ltb, leb, eqb}
+use lib.Dec.{ltb, eqb}
 use lib.ListN.{length}
 use Rattle.bits.specs.Bits.{bits_at}
 use Rattle.rules.specs.declared.Field.{Field}
 use Rattle.rules.specs.Rule.{Rule, done, ends, position_then, end_then, bits_then, skip_then, field_then, set_end_then, End, refused, pick, ◌>>=◌, position, end, bits, skip, set_end, field}
 use Rattle.rules.specs.Reading.{Input, reading, ended_at, has_room, inside}
-use Rattle.rules.specs.Derived.{take, flag, parts, escaped, passive_bits, passive_values, each, label_bytes, label, demand, remaining, count, drc_count, is_full, entry}
+use Rattle.rules.specs.Derived.{take, flag, parts, escaped, passive_bits, passive_values, each, label_bytes, label, demand, remaining, count, drc_count, is_full}
 use Rattle.rules.specs.Answer.{entry_reading}
 use Rattle.laws.specs.Tiles.{Tiles, Tiling, Covers, Covered, lengths, CallCovered}
 use Rattle.rules.proofs.Pick.{by_pick}
+use Rattle.laws.proofs.Entered.{RefusedOrFrom, entered}
 
 none : {A : Type 0} {f p : ℕ} (z : End) (e : ℕ) → f ≤ p → Covered {A = A} f (ended_at z p e)
 unfolding Covers
@@ -151,24 +152,12 @@ tiling_each f i [] t = tiling_done
 tiling_each f i (x ∷ xs) t = tiling_bind (t i x) (λ y. tiling_bind (tiling_each f (i + 1) xs t) (λ ys. tiling_done))
 
 -- a whole call, from its offset on
-refused_call : {A : Type 0} (offset : ℕ) (x : End) (p e : ℕ) → CallCovered {A = A} offset (ended_at x p e)
-refused_call offset x p e = inl (record { none = refl; how = x; ended_so = refl })
-
 pub call_covered : {A : Type 0} {r : Rule A} (i : Input) (own offset : ℕ) → Tiling r → CallCovered offset (entry_reading i own offset r)
-unfolding reading entry demand set_end skip ◌>>=◌
-call_covered {A} {r} i own offset t =
-    let size = length i.bytes in
-    let here : 0 + offset ≡ offset = omega arith in
-    let from : Covered offset (reading i r (0 + offset) (8 * size) 0) = subst (λ (p : ℕ). Covered offset (reading i r p (8 * size) 0)) (sym here) (covers_all i offset (8 * size) 0 t) in
-    by_pick (λ q. CallCovered offset (reading i (q >>= (λ _. demand (eqb own 0) (refused own) >>= (λ _. set_end (8 * size) >>= (λ _. skip offset))) >>= (λ _. r)) 0 0 0))
-    (leb size 8388608) (done tt) (ends (refused 1)) (λ _.
-    by_pick (λ q. CallCovered offset (reading i (q >>= (λ _. set_end (8 * size) >>= (λ _. skip offset)) >>= (λ _. r)) 0 0 0))
-    (eqb own 0) (done tt) (ends (refused own)) (λ _.
-    by_pick (CallCovered offset) (inside i 0 (8 * size)) _ _ (λ _.
-    by_pick (CallCovered offset) (ltb (8 * size - 0) offset) _ _ (λ _. refused_call offset _ _ _) (λ _. inr from))
-    (λ _. refused_call offset _ _ _))
-    (λ _. refused_call offset _ _ _))
-    (λ _. refused_call offset _ _ _)
+call_covered {A} {r} i own offset t = by (entered i offset r own)
+  where
+    by : RefusedOrFrom i offset r (entry_reading i own offset r) → CallCovered offset (entry_reading i own offset r)
+    by (inl x) = rw x.refused (inl (record { none = refl; how = x.how; ended_so = refl }))
+    by (inr e) = rw e (inr (covers_all i offset (8 * length i.bytes) 0 t))
 
 pub ruleset tiling =
     (tiling_bind, tiling_done, tiling_ends, tiling_pick, tiling_set_end, tiling_take, tiling_flag, tiling_passive_bits, tiling_passive_values, tiling_each, tiling_escaped, tiling_label, tiling_demand, tiling_count, tiling_drc_count)

@@ -1,4 +1,4 @@
--- What each number of document 01 means, in words: the table of docs/NUMBERS.md. A row's text ends at a bar. Numbers that
+-- What each number means, in words: the table of docs/NUMBERS.md. A row's text ends at a bar. Numbers that
 -- the papers do not have, 0 and 27 to 30 among them, have the words of row 0.
 use Rattle.std.specs.Prelude.{ℕ, ◌≡◌, List, [], ◌∷◌, eqb}
 use Prim.Native.Char.{code}
@@ -44,6 +44,9 @@ meanings =
     ∷ "HRTF type 2|                                               "
     ∷ "HRTF type above 2|                                         "
     ∷ "LZW initial width above 15, or greatest width above 16|    "
+    ∷ "not as many new parents as shapes|                         "
+    ∷ "the parent that changes is not dynamic|                    "
+    ∷ "buffer too short for the packet|                           "
     ∷ []
 
 -- the text of a row

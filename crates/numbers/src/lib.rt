@@ -1,4 +1,4 @@
-// What each number of document 01 means, in words (docs/NUMBERS.md).
+// What each number means, in words (docs/NUMBERS.md).
 #![tactic(auto)]
 
 ghost use Rattle.std.specs.Prelude.{◌≡◌};
@@ -8,7 +8,7 @@ ghost use Rattle.numbers.specs.Meaning.{meaning};
 use text::Writer;
 
 // The words for each number from 0 on. Numbers that the papers do not have, 0 and 27 to 30 among them, have those of 0.
-const MEANINGS: [&[u8]; 36] = [
+const MEANINGS: [&[u8]; 39] = [
     b"a number without a meaning",
     b"the input has more than 8,388,608 bytes",
     b"more than 63 shapes, or a precision above 24",
@@ -45,6 +45,9 @@ const MEANINGS: [&[u8]; 36] = [
     b"HRTF type 2",
     b"HRTF type above 2",
     b"LZW initial width above 15, or greatest width above 16",
+    b"not as many new parents as shapes",
+    b"the parent that changes is not dynamic",
+    b"buffer too short for the packet",
 ];
 
 // What a number means.

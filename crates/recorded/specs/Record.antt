@@ -9,7 +9,7 @@ use Rattle.rules.specs.declared.Outcome.TheVariants.{Read, Refused, Stopped}
 use Rattle.text.specs.declared.TextAnswer.{TextAnswer}
 use Rattle.position.specs.declared.PositionSyntax.{PositionSyntax}
 use Rattle.recorded.specs.declared.Kind.{Kind}
-use Rattle.recorded.specs.declared.Kind.TheVariants.{Reading, Name, Show}
+use Rattle.recorded.specs.declared.Kind.TheVariants.{Reading, Name, Show, Parents}
 use Rattle.recorded.specs.declared.Reading.TheVariants.{Fields, Scene, Update, Position, Validation, Metadata}
 use Rattle.recorded.specs.declared.Head.{Head}
 use Rattle.recorded.specs.declared.NoRecord.{NoRecord}
@@ -32,6 +32,7 @@ code_of (Reading Validation) = 4
 code_of (Reading Metadata) = 5
 code_of Name = 6
 code_of Show = 7
+code_of Parents = 8
 
 -- what has a code, or none if nothing has it
 abbrev pub Decodes : ℕ → Result Kind NoRecord → Type 0

@@ -1,10 +1,11 @@
 // What a record of the oracle holds, as replay reads it from its input: its head, shapes, the words of fields, the bytes of
-// a text, and whether what a call answered and left is that. `oracle/README.md` says how a record is laid out.
+// a text or a packet, and whether what a call answered and left is that. `oracle/README.md` says how a record is laid out.
 #![tactic(auto)]
 
 ghost use Rattle.std.specs.Prelude.{◌≡◌, ◌≤◌, ◌↔◌, ◌==◌, ℕ, nat_eq, Some, IfOk, IsTrue};
 ghost use Rattle.std.specs.Prelude.{List, length, take, slice_index};
 ghost use Rattle.std.specs.Io.KnownBytes.{Consumes};
+ghost use Rattle.bit_writer.specs.Bits.{bytes_for};
 ghost use Rattle.recorded.specs.Record.{big_endian, Decodes, field_of, outcome_from, answer_in, blanks, blank_word};
 ghost use Rattle.recorded.specs.Record.{are_blank, bytes_of, BeginsWithNext, NextIs, shape_of, text_answer};
 
@@ -17,12 +18,13 @@ use text::TextAnswer;
 #[derive(Clone, Copy)]
 pub struct NoRecord;
 
-// What a record asks for: a reading, or a text.
+// What a record asks for: a reading, a text, or a packet of new parents.
 #[derive(Clone, Copy)]
 pub enum Kind {
     Reading(Reading),
     Name,
     Show,
+    Parents,
 }
 
 // What is read.
@@ -51,6 +53,7 @@ impl TryFrom<u64> for Kind {
             5 => Ok(Kind::Reading(Reading::Metadata)),
             6 => Ok(Kind::Name),
             7 => Ok(Kind::Show),
+            8 => Ok(Kind::Parents),
             _ => Err(NoRecord),
         }
     }
@@ -150,7 +153,7 @@ impl Head {
         self.0[1] == 1
     }
 
-    // How many words are lent for fields, or bytes for a name.
+    // How many words are lent for fields, or bytes for a name or a packet.
     pub fn room(&self) -> usize
         ensures { result ≡ field_of self.now.0 2 6 }
     {
@@ -171,6 +174,13 @@ impl Head {
         self.number(6, 14)
     }
 
+    // How many new parents there are, which stands in the place of the offset too.
+    pub fn parents(&self) -> usize
+        ensures { result ≡ field_of self.now.0 6 14 }
+    {
+        self.offset()
+    }
+
     // How many bytes the input has.
     pub fn size(&self) -> usize
         ensures { result ≡ field_of self.now.0 14 18 }
@@ -185,7 +195,7 @@ impl Head {
         self.number(18, 20) as usize
     }
 
-    // How many fields are counted, or how long a text is.
+    // How many fields are counted, how long a text is in bytes, or a packet in bits.
     fn fields(&self) -> usize
         ensures { result ≡ field_of self.now.0 30 34 }
     {
@@ -227,7 +237,7 @@ impl Head {
     }
 }
 
-// What stands at one place of what is lent to a call: a word of fields, or a byte of a text.
+// What stands at one place of what is lent to a call: a word of fields, or a byte of a text or a packet.
 pub trait Place: Copy + PartialEq {
     ghost blank_of: { ℕ → Self };
 
@@ -260,7 +270,7 @@ impl Place for u64 {
     }
 }
 
-// No text has such a byte.
+// No text has such a byte. Its last bit is 1, which a packet's is not where it is left over.
 impl Place for u8 {
     ghost blank_of = { λ _. 165 };
 
@@ -352,12 +362,21 @@ const UNDECLARED: PositionSyntax = PositionSyntax {
 };
 
 // The next `n` shapes, and undeclared ones after them.
-pub fn next_shapes<R: Read>(input: &mut R, n: usize) -> [PositionSyntax; 63] {
-    let mut shapes = [UNDECLARED; 63];
+pub fn next_shapes<const N: usize, R: Read>(input: &mut R, n: usize) -> [PositionSyntax; N] {
+    let mut shapes = [UNDECLARED; N];
     for shape in shapes.iter_mut().take(n) {
         *shape = next_shape(input);
     }
     shapes
+}
+
+// The next `n` new parents, of 8 bytes each, and zeros after them.
+pub fn next_parents<const N: usize, R: Read>(input: &mut R, n: usize) -> [usize; N] {
+    let mut parents = [0; N];
+    for parent in parents.iter_mut().take(n) {
+        *parent = u64::next(input) as usize;
+    }
+    parents
 }
 
 // Whether the first `n` shapes are the next of the input, and the others those of `others`.
@@ -377,16 +396,35 @@ pub fn same_shapes<R: Read>(
     same
 }
 
+// Whether an answer is as recorded, and the first `n` bytes that were lent blank hold what the input has next.
+fn bytes_agree<R: Read>(input: &mut R, head: &Head, answer: Answer, bytes: &[u8], n: usize) -> bool
+    ensures answer { IsTrue result → (answer_in head.now.0 ≡ Some answer) }
+    ensures others { IsTrue result → IsTrue (are_blank nat_eq (λ _. 165) n bytes.now) }
+{
+    let same = is_recorded(input, bytes, n);
+    same && head.agrees(answer)
+}
+
 // Whether a text, put into bytes that were blank, and its answer are as recorded. The record has the text's length in the
 // place of the fields.
 pub fn text_agrees<R: Read>(input: &mut R, head: &Head, answer: TextAnswer, bytes: &[u8]) -> bool
     ensures answer { IsTrue result → (answer_in head.now.0 ≡ Some (text_answer answer)) }
     ensures others { let n = field_of head.now.0 30 34 in IsTrue result → IsTrue (are_blank nat_eq (λ _. 165) n bytes.now) }
 {
-    let same = is_recorded(input, bytes, head.fields());
-    same && head.agrees(Answer {
+    let answer = Answer {
         outcome: answer.outcome,
         position: answer.position,
         fields: answer.length,
-    })
+    };
+    bytes_agree(input, head, answer, bytes, head.fields())
+}
+
+// Whether a packet, put into bytes that were blank, and its answer are as recorded. Both have the packet's length in bits in the
+// place of the fields.
+pub fn packet_agrees<R: Read>(input: &mut R, head: &Head, answer: Answer, bytes: &[u8]) -> bool
+    ensures answer { IsTrue result → (answer_in head.now.0 ≡ Some answer) }
+    ensures others { let n = bytes_for (field_of head.now.0 30 34) in IsTrue result → IsTrue (are_blank nat_eq (λ _. 165) n bytes.now) }
+{
+    let n = bit_writer::bytes_for(head.fields());
+    bytes_agree(input, head, answer, bytes, n)
 }

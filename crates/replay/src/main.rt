@@ -1,8 +1,8 @@
 // Replays recorded answers of the oracle: those of the Rust, and for name words, which it does not have, those of
 // docs/FIELDS.md. Standard input holds records; each is run, and its answer, its largest rank, its shapes, its field words and
-// the words after them are held to what the oracle gave, and so are the text of a name or of a show and the bytes after it.
-// `oracle/README.md` says how a record is laid out: a head of 34 bytes, the input, what is handed in, the largest rank and the
-// shapes after the call, and the words of the recorded fields or the text.
+// the words after them are held to what the oracle gave, and so are the text of a name or of a show, or the packet of new
+// parents, and the bytes after it. `oracle/README.md` says how a record is laid out: a head of 34 bytes, the input, what is
+// handed in, the largest rank and the shapes after the call, and the words of the recorded fields, the text or the packet.
 #![tactic(auto)]
 
 use parser::Parser;
@@ -13,11 +13,14 @@ use std::alloc::Global;
 use std::io::{self, Read};
 use validation::GraphAnswer;
 
-// The most bytes of an input, or of a name.
+// The most bytes of an input, or that are lent for a name or a packet.
 const BYTES: usize = 262144;
 
 // The most words that are lent for fields.
 const WORDS: usize = 98304;
+
+// The most shapes that are to get new parents, and the most new parents.
+const WANTED: usize = 80;
 
 // How many records were run, and how many of them were wrong.
 #[derive(Clone, Copy)]
@@ -155,6 +158,23 @@ fn show_agrees<R: Read>(reader: &mut R, head: &Head, bytes: &mut [u8]) -> Result
     Ok(same && got == file.len())
 }
 
+// Whether the packet that gives shapes new parents is as recorded, in the bytes that it is lent, if there are as many.
+fn parents_agree<R: Read>(reader: &mut R, head: &Head, bytes: &mut [u8]) -> Result<bool, NoRecord> {
+    let shapes = recorded::next_shapes::<WANTED, R>(reader, head.count());
+    let parents = recorded::next_parents::<WANTED, R>(reader, head.parents());
+    let shapes = shapes.get(..head.count()).ok_or(NoRecord)?;
+    let parents = parents.get(..head.parents()).ok_or(NoRecord)?;
+    let lent = bytes.get_mut(..head.room()).ok_or(NoRecord)?;
+    recorded::clear(lent);
+    let written = parent_writer::write_parents(shapes, parents, lent);
+    let answer = Answer {
+        outcome: written.outcome,
+        position: written.position,
+        fields: written.length,
+    };
+    Ok(recorded::packet_agrees(reader, head, answer, lent))
+}
+
 // Whether a reading is answered as recorded, in the input and the words that it is lent, if there are as many.
 fn reading_agrees<R: Read>(
     reader: &mut R,
@@ -193,6 +213,7 @@ fn next_agrees<R: Read>(
         Kind::Reading(reading) => reading_agrees(reader, reading, &head, bytes, words)?,
         Kind::Name => name_agrees(reader, &head, bytes)?,
         Kind::Show => show_agrees(reader, &head, bytes)?,
+        Kind::Parents => parents_agree(reader, &head, bytes)?,
     };
     Ok(Some(agrees))
 }

@@ -12,7 +12,8 @@ use Rattle.rules.specs.Derived.{demand, entry}
 use Rattle.rules.specs.Answer.{end_outcome, outcome_of, value_or, entry_then, entry_reading}
 use Rattle.rules.proofs.Laws.{never}
 
-ended_unread : (x : End) → is_read (end_outcome x) ≡ false
+-- what ended was not read
+pub ended_unread : (x : End) → is_read (end_outcome x) ≡ false
 ended_unread (refused n) = refl
 ended_unread (stopped n) = refl
 

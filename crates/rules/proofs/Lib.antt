@@ -5,5 +5,6 @@ pub mod Bind
 pub mod Forward
 pub mod Laws
 pub mod Answers
+pub mod Questions
 pub mod Table
 pub mod Linked

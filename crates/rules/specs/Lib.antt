@@ -3,6 +3,7 @@ pub mod Block
 pub mod Leaf
 pub mod Rule
 pub mod Reason
+pub mod Questions
 pub mod Reading
 pub mod Derived
 pub mod Words

@@ -1,7 +1,7 @@
--- Why a reading ended, by the code's enum: document 01's number, and whether it refuses or stops.
+-- Why a reading ended, by the code's enum: its number, and whether it refuses or stops.
 use Rattle.std.specs.Prelude.{ℕ, ◌≡◌, Result, Ok, Err, MatchResult}
 use Rattle.rules.specs.declared.reason.Reason.{Reason}
-use Rattle.rules.specs.declared.reason.Reason.TheVariants.{InputTooLong, BadShapes, BitsMissing, TooManyFields, NoRoom, BadCount, ExtensionsUnended, ParentUndeclared, ParentsInCircle, NoConfiguration, TooManyParameters, TooManyRendererParameters, ReverbType, MatrixLocation, RadiationType, ComponentType, LabelUnended, HeadphoneBytes, CompressionBytes, SymbolWidth, CodewordWidth, BadProbabilities, FileTooLong, HeaderUnsound, NameUnknown, TextTooLong, RoomGeometryFallback, DoublePrecision, HrtfType2, HrtfType, LzwWidth}
+use Rattle.rules.specs.declared.reason.Reason.TheVariants.{InputTooLong, BadShapes, BitsMissing, TooManyFields, NoRoom, BadCount, ExtensionsUnended, ParentUndeclared, ParentsInCircle, NoConfiguration, TooManyParameters, TooManyRendererParameters, ReverbType, MatrixLocation, RadiationType, ComponentType, LabelUnended, HeadphoneBytes, CompressionBytes, SymbolWidth, CodewordWidth, BadProbabilities, FileTooLong, HeaderUnsound, NameUnknown, TextTooLong, RoomGeometryFallback, DoublePrecision, HrtfType2, HrtfType, LzwWidth, ListsDiffer, ParentNotDynamic, PacketTooLong}
 use Rattle.rules.specs.declared.reason.UnknownReason.{UnknownReason}
 use Rattle.rules.specs.Rule.{End, refused, stopped}
 
@@ -37,6 +37,9 @@ number_of DoublePrecision = 32
 number_of HrtfType2 = 33
 number_of HrtfType = 34
 number_of LzwWidth = 35
+number_of ListsDiffer = 36
+number_of ParentNotDynamic = 37
+number_of PacketTooLong = 38
 
 abbrev pub end_of : Reason → End
 end_of InputTooLong = refused 1
@@ -70,6 +73,9 @@ end_of DoublePrecision = stopped 32
 end_of HrtfType2 = stopped 33
 end_of HrtfType = stopped 34
 end_of LzwWidth = stopped 35
+end_of ListsDiffer = refused 36
+end_of ParentNotDynamic = refused 37
+end_of PacketTooLong = refused 38
 
 -- the number of a question that is not met, or 0
 abbrev pub asked : {A : Type 0} → Result A Reason → ℕ

@@ -21,7 +21,7 @@ pub mod reason;
 pub use names::Names;
 pub use reason::Reason;
 
-// How a reading ended, as it is told, with document 01's number. Callers meet numbers: the papers give them, and they cross to C.
+// How a reading ended, as it is told, with its number. Callers meet numbers: the papers give them, and they cross to C.
 #[derive(Clone, Copy)]
 pub enum Outcome {
     Read,

@@ -1,5 +1,5 @@
-// Why a reading ended before it was done, with document 01's number (docs/NUMBERS.md has the words of each). Those from the first
-// stop on stop a reading, the others refuse it; 23 and 24 refuse a show file, 25 and 26 a name's text.
+// Why a reading ended before it was done, with its number (docs/NUMBERS.md has the words of each). 31 to 35 stop a reading, the
+// others refuse it; 23 and 24 refuse a show file, 25 and 26 a name's text, 36 to 38 the packet of new parents.
 ghost use Rattle.std.specs.Prelude.{◌≡◌};
 ghost use Rattle.rules.specs.Reason.{number_of, end_of, Decodes};
 ghost use Rattle.rules.specs.Answer.{end_outcome, ended_as};
@@ -39,6 +39,9 @@ pub enum Reason {
     HrtfType2 = 33,
     HrtfType = 34,
     LzwWidth = 35,
+    ListsDiffer = 36,
+    ParentNotDynamic = 37,
+    PacketTooLong = 38,
 }
 
 // A number that no reason has.
@@ -49,7 +52,10 @@ impl Reason {
     // The least number of a reason that stops.
     const FIRST_STOP: u16 = Reason::RoomGeometryFallback as u16;
 
-    // Document 01's number.
+    // The greatest.
+    const LAST_STOP: u16 = Reason::LzwWidth as u16;
+
+    // The number that the papers give it.
     pub fn number(self) -> u16
         ensures { result ≡ number_of self }
     {
@@ -62,7 +68,7 @@ impl From<Reason> for Outcome {
         ensures { result ≡ end_outcome (end_of reason) }
     {
         let number = reason.number();
-        if number < Reason::FIRST_STOP {
+        if number < Reason::FIRST_STOP || Reason::LAST_STOP < number {
             Outcome::Refused(number)
         } else {
             Outcome::Stopped(number)
@@ -119,6 +125,9 @@ impl TryFrom<u16> for Reason {
             33 => Ok(Reason::HrtfType2),
             34 => Ok(Reason::HrtfType),
             35 => Ok(Reason::LzwWidth),
+            36 => Ok(Reason::ListsDiffer),
+            37 => Ok(Reason::ParentNotDynamic),
+            38 => Ok(Reason::PacketTooLong),
             _ => Err(UnknownReason(number)),
         }
     }

@@ -1,6 +1,6 @@
 // The reading of an update before it is decided whether it counts, for `graph_update` here and for the crate `lent` alone. Unless
 // the update was read, the first `count` shapes that `read_update` leaves are free: nothing is promised of them. Whether they
-// count is decided by its two callers.
+// count is decided by its two callers. Question 2 is asked elsewhere too, of shapes for which an update is written.
 ghost use Rattle.std.specs.Prelude.{◌≡◌, ℕ, ◌≤◌, ◌<◌, length, get_or, take, IfOk};
 ghost use Rattle.rules.specs.Answer.{input_of, entry_then};
 ghost use Rattle.parser.specs.Met.{Met, giving};
@@ -27,7 +27,21 @@ fn all_shaped(shapes: &[PositionSyntax]) -> bool
     true
 }
 
-// Question 2, of the first `count` shapes.
+// Question 2: at most 63 shapes, no precision above 24.
+pub fn shapes_question(shapes: &[PositionSyntax]) -> Result<(), Reason>
+    ensures number { asked result ≡ shapes_question (length shapes.now) shapes.now }
+    ensures refuses { IsRefusal result }
+{
+    if shapes.len() > Parser::POSITIONS {
+        return Err(Reason::BadShapes);
+    }
+    if all_shaped(shapes) {
+        return Ok(());
+    }
+    Err(Reason::BadShapes)
+}
+
+// The same of the first `count` shapes.
 fn question(shapes: &[PositionSyntax; 63], count: usize) -> Result<(), Reason>
     ensures number { asked result ≡ shapes_question count (take count shapes.now) }
     ensures refuses { IsRefusal result }
@@ -35,10 +49,7 @@ fn question(shapes: &[PositionSyntax; 63], count: usize) -> Result<(), Reason>
     if count > Parser::POSITIONS {
         return Err(Reason::BadShapes);
     }
-    if all_shaped(&shapes[..count]) {
-        return Ok(());
-    }
-    Err(Reason::BadShapes)
+    shapes_question(&shapes[..count])
 }
 
 // The positions of an update, whose parents are validated after the last of them; it gives their largest rank.

@@ -8,11 +8,11 @@ use Rattle.std.specs.Prelude.{Ok, Err, IfOk}
 use Rattle.std.specs.Borrow.{Bor, MutBor}
 use Rattle.rules.specs.declared.Answer.{Answer}
 use Rattle.rules.specs.declared.reason.Reason.{Reason}
-use Rattle.rules.specs.Rule.{Rule, End, refused, stopped}
+use Rattle.rules.specs.Rule.{Rule, refused, stopped}
 use Rattle.rules.specs.Reason.{end_of}
 use Rattle.rules.specs.Reading.{Reading, Result, read, ended, reading, is_read}
-use Rattle.rules.specs.Answer.{outcome_of, end_outcome, value_or, input_of, Answered}
-use Rattle.rules.proofs.Answers.{value_unread, value_of_read}
+use Rattle.rules.specs.Answer.{outcome_of, value_or, input_of, Answered}
+use Rattle.rules.proofs.Answers.{ended_unread, value_unread, value_of_read}
 use Rattle.rules.proofs.Laws.{never}
 use Rattle.parser.specs.declared.Parser.{Parser}
 use Rattle.parser.specs.Met.{Met, giving}
@@ -33,10 +33,6 @@ largest_read before (ended (stopped n)) h = never h refl
 pub largest_unread : (x : Result (List PositionSyntax)) → is_read (outcome_of x) ≡ false → 0 ≡ deepest_of x
 largest_unread (read l) h = never refl h
 largest_unread (ended z) h = refl
-
-unread : (z : End) → is_read (end_outcome z) ≡ false
-unread (refused n) = refl
-unread (stopped n) = refl
 
 module _ {x : Reading (List PositionSyntax)} {before after : List PositionSyntax} {rec : Bool} {ws vs : List ℕ} {r : Answer} (m : Answered x before rec ws r after vs) where
   told : is_read r.outcome ≡ is_read (outcome_of x.result)
@@ -74,7 +70,7 @@ graph_is m = ap₂ (λ (a : Answer) (d : ℕ). record { answer = a; deepest = d 
 pub reading_tells : (before : List PositionSyntax) (x : Result (List PositionSyntax)) → ((l : List PositionSyntax) → x ≡ read l → HaveRanks (parents l)) →
     LargestTold (outcome_of x) (deepest_of x) (value_or before x)
 reading_tells before (read l) k = record { of_read = λ h. have_largest (parents l) (k l refl); of_unread = λ h. never refl h }
-reading_tells before (ended z) k = record { of_read = λ h. never h (unread z); of_unread = λ h. refl }
+reading_tells before (ended z) k = record { of_read = λ h. never h (ended_unread z); of_unread = λ h. refl }
 
 pub answer_tells : {x : Reading (List PositionSyntax)} {before after : List PositionSyntax} {rec : Bool} {ws vs : List ℕ} {r : GraphAnswer} → GraphAnswered x before rec ws r after vs →
     ((l : List PositionSyntax) → x.result ≡ read l → HaveRanks (parents l)) → TellsLargest r after
@@ -86,7 +82,7 @@ module _ (r : Rule (List PositionSyntax)) {bs : Bor (List ℕ)} {ws : MutBor (Li
       g ≡ graph_ended x q.position q.fields →
       GraphAnswered (reading (input_of bs.now rec ws.now) r 0 0 0) v rec ws.now g v q.words.now
   graph_lent {v} (Ok d) m k e = rw e (with_deepest (answered_read r b v m refl) refl k)
-  graph_lent {v} (Err z) m k e = rw e (without (answered_ended r b v m refl) (unread (end_of z)))
+  graph_lent {v} (Err z) m k e = rw e (without (answered_ended r b v m refl) (ended_unread (end_of z)))
 
 -- the largest rank of shapes, by another name
 pub largest_as : {a b : List PositionSyntax} (x : std.Result ℕ Reason) → b ≡ a → IfOk x (λ d. d ≡ largest_rank a) → IfOk x (λ d. d ≡ largest_rank b)

@@ -53,13 +53,15 @@ impl Outcome {
     }
 }
 
-/// What a position, metadata or a name answers.
+/// What a position, metadata, a name or new parents answer. The last two are read if they are
+/// written.
 #[derive(Clone, Copy, Debug, PartialEq, Eq)]
 pub struct Answer {
     pub outcome: Outcome,
     /// In bits from the first bit of the input; the end, if read.
     pub position: usize,
-    /// The fields counted, recorded or not; of a name the bytes of its text.
+    /// The fields counted, recorded or not; of a name the bytes of its text; of new parents the bits
+    /// of their packet.
     pub counted: usize,
 }
 
@@ -187,6 +189,27 @@ pub fn name_text(word: u64, bytes: &mut [u8]) -> (Answer, &str) {
     let answer = unsafe { raw::gateway_name(word, bytes.as_mut_ptr(), bytes.len()) };
     let text = str::from_utf8(&bytes[..answer.counted]).expect("a text in ASCII");
     (answer.into(), text)
+}
+
+/// Writes the packet of fewest bits that gives the shapes new parents into these bytes, and gives its
+/// own back; there are none if it is refused, and for no shapes. [`graph_update`] reads it.
+pub fn write_parents<'p>(
+    shapes: &[PositionSyntax],
+    parents: &[usize],
+    packet: &'p mut [u8],
+) -> (Answer, &'p [u8]) {
+    // SAFETY: as for a reading.
+    let answer = unsafe {
+        raw::gateway_parents(
+            shapes.as_ptr(),
+            shapes.len(),
+            parents.as_ptr(),
+            parents.len(),
+            packet.as_mut_ptr(),
+            packet.len(),
+        )
+    };
+    (answer.into(), &packet[..answer.counted.div_ceil(8)])
 }
 
 /// The value of a field; of a payload the count of its bits, of a label that of its bytes.

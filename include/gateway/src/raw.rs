@@ -90,4 +90,13 @@ unsafe extern "C" {
     ) -> GatewayGraphAnswer;
 
     pub fn gateway_name(word: u64, bytes: *mut u8, bytes_len: usize) -> GatewayAnswer;
+
+    pub fn gateway_parents(
+        shapes: *const PositionSyntax,
+        shapes_len: usize,
+        parents: *const usize,
+        parents_len: usize,
+        packet: *mut u8,
+        packet_len: usize,
+    ) -> GatewayAnswer;
 }

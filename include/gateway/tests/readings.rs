@@ -4,7 +4,7 @@ use gateway::Outcome::{self, Read, Refused, Stopped};
 use gateway::{
     Answer, FIELD_WORDS, Field, GraphAnswer, MAX_NAME, MAX_POSITIONS, MAX_PRECISION,
     PositionSyntax, Scene, fields, graph_update, name_text, read_metadata, read_position,
-    read_scene, validate_graph,
+    read_scene, validate_graph, write_parents,
 };
 
 /// Two positions with dynamic parents, the second hung on the first.
@@ -290,4 +290,50 @@ fn a_name_is_written_in_front() {
     assert_eq!(bytes, [b'-'; 30]);
     assert_eq!(name_text(257, &mut bytes), (ends(Read, 0, 27), name));
     assert_eq!(bytes, *b"ancillary.scene_graph.count---");
+}
+
+/// The packets of the worked scene, and their refusals.
+#[test]
+fn a_packet_is_written_in_front() {
+    let mut bytes = [0xff; 4];
+    let mut write = |shapes: &[PositionSyntax], parents: &[usize], room: usize| {
+        bytes.fill(0xff);
+        let (answer, packet) = write_parents(shapes, parents, &mut bytes[..room]);
+        let packet = packet.to_vec();
+        assert!(bytes[packet.len()..].iter().all(|&byte| byte == 0xff));
+        (answer, packet)
+    };
+    let (before, freed) = ([on(0), on(1)], [on(0), on(0)]);
+    let packet = |bits, bytes: &[u8]| (ends(Read, 0, bits), bytes.to_vec());
+    assert_eq!(write(&before, &[0, 0], 1), packet(7, &SECOND_FREED));
+    assert_eq!(write(&freed, &[2, 0], 4), packet(13, &FIRST_ON_SECOND));
+    assert_eq!(write(&before, &[0, 1], 2), packet(2, &[0x00]));
+    assert_eq!(write(&[], &[], 0), packet(0, &[]));
+    let refused = |number| (ends(Refused(number), 0, 0), Vec::new());
+    assert_eq!(write(&before, &[0], 4), refused(36));
+    assert_eq!(write(&[on(0); 64], &[0; 64], 4), refused(2));
+    assert_eq!(write(&[STRANGE], &[9], 4), refused(37));
+    assert_eq!(write(&[STRANGE], &[99], 4), refused(8));
+    assert_eq!(write(&before, &[66, 0], 4), refused(8));
+    assert_eq!(write(&before, &[2, 1], 4), refused(9));
+    assert_eq!(write(&freed, &[2, 0], 1), refused(38));
+}
+
+/// A chain of 63 is turned and turned back: what is written is read to its end.
+#[test]
+fn what_is_written_is_read() {
+    let before: Vec<usize> = (0..63).collect();
+    let after: Vec<usize> = (2..=63).chain([0]).collect();
+    let mut shapes: Vec<PositionSyntax> = before.iter().copied().map(on).collect();
+    for (i, shape) in shapes.iter_mut().enumerate() {
+        shape.range_dynamic = i % 2 == 0;
+    }
+    for parents in [&after, &before] {
+        let mut bytes = [0; 100];
+        let (answer, packet) = write_parents(&shapes, parents, &mut bytes);
+        assert_eq!(answer, ends(Read, 0, 62 * 12 + 6 + 32));
+        let update = update(packet, &mut shapes);
+        assert_eq!(update, ranked(Read, answer.counted, 62 * 7 + 6 + 32, 63));
+        assert!(shapes.iter().map(|shape| &shape.parent).eq(parents));
+    }
 }

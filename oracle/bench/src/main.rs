@@ -1,10 +1,11 @@
-//! Times the Rust, the port and a scene read by hand in C on the same inputs, and prints tables of
-//! their times. Words on the command line select rows: those that hold all of them.
+//! Times the Rust, the port and a scene read by hand in C on the same inputs, and the port's packets of
+//! new parents, and prints tables of their times. Words on the command line select rows: those that hold all of them.
 mod agreement;
 mod by_hand;
 mod clock;
 mod measure;
 mod metadata;
+mod packets;
 mod rows;
 mod scenes;
 mod sides;
@@ -17,7 +18,8 @@ use table::TABLES;
 
 fn main() -> ExitCode {
     let words: Vec<String> = env::args().skip(1).collect();
-    let rows: usize = TABLES.iter().map(|table| table.print(&words)).sum();
+    let readings: usize = TABLES.iter().map(|table| table.print(&words)).sum();
+    let rows = readings + packets::print(&words);
     if rows == 0 {
         eprintln!("bench: no row holds {}", words.join(" and "));
         return ExitCode::FAILURE;

@@ -85,7 +85,8 @@ impl Table {
         let is_selected = |&(row, recording): &_| self.holds(row, recording, words);
         let selected: Vec<(&Row, bool)> = both.filter(is_selected).collect();
         if !selected.is_empty() {
-            self.print_head();
+            let titles: Vec<&str> = self.columns.iter().map(|column| column.title).collect();
+            print_head(self.title, &titles);
         }
         for &(row, recording) in &selected {
             self.print_line(&Measured::new(row, recording));
@@ -95,22 +96,32 @@ impl Table {
 
     fn holds(&self, row: &Row, recording: bool, words: &[String]) -> bool {
         let recording = on_or_off(recording);
-        let text = format!("{} {} recording {recording}", self.title, row.what).to_lowercase();
-        words.iter().all(|word| text.contains(&word.to_lowercase()))
-    }
-
-    fn print_head(&self) {
-        let titles: Vec<&str> = self.columns.iter().map(|column| column.title).collect();
-        println!("\n### {}\n", self.title);
-        println!("| {} |", titles.join(" | "));
-        println!("|---|{}", "---:|".repeat(titles.len() - 1));
+        let text = format!("{} {} recording {recording}", self.title, row.what);
+        holds(&text, words)
     }
 
     fn print_line(&self, measured: &Measured<'_>) {
         let cells = self.columns.iter().map(|column| (column.cell)(measured));
         let cells: Vec<String> = cells.collect();
-        println!("| {} |", cells.join(" | "));
+        print_cells(&cells);
     }
+}
+
+/// Whether a text holds all words, whatever their case.
+pub fn holds(text: &str, words: &[String]) -> bool {
+    let text = text.to_lowercase();
+    words.iter().all(|word| text.contains(&word.to_lowercase()))
+}
+
+/// The titles of a table and of its columns.
+pub fn print_head(title: &str, titles: &[&str]) {
+    println!("\n### {title}\n");
+    println!("| {} |", titles.join(" | "));
+    println!("|---|{}", "---:|".repeat(titles.len() - 1));
+}
+
+pub fn print_cells(cells: &[String]) {
+    println!("| {} |", cells.join(" | "));
 }
 
 fn on_or_off(recording: bool) -> &'static str {
@@ -118,7 +129,7 @@ fn on_or_off(recording: bool) -> &'static str {
 }
 
 /// A positive number with three significant digits, or all before its point.
-fn digits(value: f64) -> String {
+pub fn digits(value: f64) -> String {
     match 2.0 - value.log10().floor() {
         decimals if decimals > 0.0 => format!("{value:.*}", decimals as usize),
         _ => grouped(value.round() as usize),

@@ -21,16 +21,19 @@ pub struct Caller {
     bytes: Pages,
     words: Pages,
     shapes: Pages,
+    parents: Pages,
 }
 
 impl Default for Caller {
     fn default() -> Self {
         let words = GREATEST_ROOM as usize * size_of::<u64>();
         let shapes = GREATEST_SHAPES as usize * size_of::<PositionSyntax>();
+        let parents = GREATEST_SHAPES as usize * size_of::<usize>();
         Self {
             bytes: Pages::new("bytes", GREATEST_BYTES),
             words: Pages::new("words", words),
             shapes: Pages::new("shapes", shapes),
+            parents: Pages::new("new parents", parents),
         }
     }
 }
@@ -44,6 +47,11 @@ impl Caller {
             Request::Call(call) => self.call(side, call, answer),
             Request::List(list) => self.list(side, list, answer),
             Request::Validation { at, shapes } => self.validation(side, *at, shapes, answer),
+            Request::Parents {
+                shapes,
+                parents,
+                room,
+            } => self.parents(side, shapes, parents, *room as usize, answer),
             Request::Name { word, room } => self.name(side, *word, *room as usize, answer),
             Request::Show { .. } => Err("the library has no shows".into()),
         })
@@ -89,6 +97,37 @@ impl Caller {
         let given = unsafe { raw::gateway_validation(memory.as_ptr(), memory.len(), at as usize) };
         must_be(given.into(), answer)?;
         memory.must_hold(&shapes)
+    }
+
+    fn parents(
+        &mut self,
+        side: Side,
+        shapes: &[Shape],
+        parents: &[usize],
+        room: usize,
+        answer: &Answer,
+    ) -> Result<(), String> {
+        let mut packet = vec![BLANK_BYTE; room];
+        let shapes = lent(shapes);
+        let lent_shapes = self.shapes.lend(side, &shapes, Access::Reading);
+        let lent_parents = self.parents.lend(side, parents, Access::Reading);
+        let memory = self.bytes.lend(side, &packet, Access::Writing);
+        // SAFETY: as for a reading.
+        let given = unsafe {
+            raw::gateway_parents(
+                lent_shapes.as_ptr(),
+                lent_shapes.len(),
+                lent_parents.as_ptr(),
+                lent_parents.len(),
+                memory.as_ptr(),
+                memory.len(),
+            )
+        };
+        must_be(given.into(), answer)?;
+        lent_shapes.must_hold(&shapes)?;
+        lent_parents.must_hold(parents)?;
+        packet[..answer.packet.len()].copy_from_slice(&answer.packet);
+        memory.must_hold(&packet)
     }
 
     fn name(&mut self, side: Side, word: u64, room: usize, answer: &Answer) -> Result<(), String> {
@@ -226,7 +265,7 @@ mod tests {
     use port::compare::agreed;
 
     /// Requests of every kind, read and refused, with recording and without.
-    const LINES: [&str; 12] = [
+    const LINES: [&str; 15] = [
         "scene 0 1 101 0a0080800080",
         "scene 0 1 99 0a0080800080",
         "scene 0 0 3 0a0080800080",
@@ -239,10 +278,13 @@ mod tests {
         "validation 77 0:0:0:0:2:0,0:0:0:0:0:0",
         "name 257 28",
         "name 257 26",
+        "parents 3 1:0:0:0:0:0,1:0:0:0:0:0 2,0",
+        "parents 1 1:0:0:0:0:0,1:0:0:0:0:0 2,0",
+        "parents 0 - -",
     ];
 
     /// Changes of an answer, which tell whether there was something to change.
-    const CHANGES: [fn(&mut Answer) -> bool; 10] = [
+    const CHANGES: [fn(&mut Answer) -> bool; 12] = [
         |_| false,
         |answer| {
             answer.verdict.outcome = Outcome::Stopped;
@@ -277,6 +319,11 @@ mod tests {
             let text = answer.text.as_mut();
             text.map(|text| text.replace_range(..1, "b")).is_some()
         },
+        |answer| {
+            let last = answer.packet.last_mut();
+            last.map(|byte| *byte ^= 1).is_some()
+        },
+        |answer| answer.packet.pop().is_some(),
     ];
 
     /// The answers that both give are confirmed, and no other.

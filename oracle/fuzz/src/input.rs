@@ -1,14 +1,15 @@
 //! The bytes of a fuzzer's input as a request, and back. README.md tells their form.
 use oracle::request::{Call, Input, List, Question, Request, Shape};
 
-/// The most words that are lent for fields, bytes for a text, and shapes; the most updates of a list.
+/// The most words that are lent for fields, bytes for a text or a packet, shapes, and new parents; the most updates
+/// of a list.
 pub const GREATEST_ROOM: u64 = 8_191;
 pub const GREATEST_TEXT: u64 = 255;
 pub const GREATEST_SHAPES: u64 = 79;
 const GREATEST_UPDATES: usize = 200;
 
 /// The kinds of requests; the first byte of an input, modulo their number, is the place of its kind.
-pub const KINDS: [&str; 7] = [
+pub const KINDS: [&str; 8] = [
     "scene",
     "metadata",
     "update",
@@ -16,6 +17,7 @@ pub const KINDS: [&str; 7] = [
     "list",
     "validation",
     "name",
+    "parents",
 ];
 
 /// After this byte comes one byte of a number, after the next two, and so on.
@@ -35,6 +37,11 @@ pub fn decode(input: &[u8]) -> Request {
             word: reader.number(),
             room: reader.number_to(GREATEST_TEXT) as u32,
         },
+        "parents" => Request::Parents {
+            room: reader.number_to(GREATEST_TEXT) as u32,
+            shapes: reader.shapes(),
+            parents: reader.parents(),
+        },
         kind => Request::Call(reader.call(kind)),
     }
 }
@@ -53,6 +60,15 @@ pub fn encode(request: &Request) -> Result<Vec<u8>, String> {
         Request::Name { word, room } => {
             writer.number(*word);
             writer.number((*room).into());
+        }
+        Request::Parents {
+            shapes,
+            parents,
+            room,
+        } => {
+            writer.number((*room).into());
+            writer.shapes(shapes);
+            writer.parents(parents);
         }
         Request::Show { .. } => {}
     }
@@ -96,6 +112,11 @@ impl Reader<'_> {
     fn shapes(&mut self) -> Vec<Shape> {
         let count = self.number_to(GREATEST_SHAPES);
         (0..count).map(|_| self.shape()).collect()
+    }
+
+    fn parents(&mut self) -> Vec<usize> {
+        let count = self.number_to(GREATEST_SHAPES);
+        (0..count).map(|_| self.number() as usize).collect()
     }
 
     fn shape(&mut self) -> Shape {
@@ -187,6 +208,13 @@ impl Writer {
         shapes.iter().for_each(|shape| self.shape(shape));
     }
 
+    fn parents(&mut self, parents: &[usize]) {
+        self.number(parents.len() as u64);
+        for &parent in parents {
+            self.number(parent as u64);
+        }
+    }
+
     fn shape(&mut self, shape: &Shape) {
         let flags = [shape.polar, shape.range_dynamic, shape.parent_dynamic];
         let byte = flags
@@ -243,7 +271,7 @@ mod tests {
 
     #[test]
     fn examples() {
-        let examples: [(&str, &[u8]); 8] = [
+        let examples: [(&str, &[u8]); 10] = [
             ("scene 9 1 247 0a80", &[0, 9, 1, 247, 0x0a, 0x80]),
             (
                 "metadata 248 0 255 00f8",
@@ -270,6 +298,11 @@ mod tests {
                 "name 18446744073709551615 4",
                 &[6, 255, 255, 255, 255, 255, 255, 255, 255, 255, 4],
             ),
+            ("parents 0 - -", &[7, 0, 0, 0]),
+            (
+                "parents 2 1:1:0:24:256:0 7,0",
+                &[7, 2, 1, 3, 0, 24, 249, 1, 0, 2, 7, 0],
+            ),
         ];
         for (line, input) in examples {
             assert_eq!(decode(input), request(line));
@@ -280,12 +313,13 @@ mod tests {
     /// What ends early goes on with zeros, and what is too great is reduced.
     #[test]
     fn other_inputs() {
-        let examples: [(&str, &[u8]); 5] = [
+        let examples: [(&str, &[u8]); 6] = [
             ("scene 0 0 0 -", &[]),
-            ("scene 512 0 0 -", &[7, 249, 2]),
-            ("scene 0 1 1 ff", &[14, 0, 3, 249, 0x20, 0x01, 0xff]),
+            ("scene 512 0 0 -", &[8, 249, 2]),
+            ("scene 0 1 1 ff", &[16, 0, 3, 249, 0x20, 0x01, 0xff]),
             ("list 0 0 0:ff -", &[4, 0, 0, 0, 9, 0xff]),
             ("validation 0 0:0:0:0:0:0,0:0:0:0:0:0", &[5, 0, 82]),
+            ("parents 1 - 3,0", &[7, 249, 1, 1, 80, 82, 3]),
         ];
         for (line, input) in examples {
             assert_eq!(decode(input), request(line));
@@ -302,6 +336,11 @@ mod tests {
         assert!(told("name 0 255") && !told("name 0 256"));
         assert!(told(&format!("validation 0 {}", shapes(79))));
         assert!(!told(&format!("validation 0 {}", shapes(80))));
+        let parents = |count| vec!["0"; count].join(",");
+        assert!(told("parents 255 - 0") && !told("parents 256 - 0"));
+        assert!(told(&format!("parents 0 {} {}", shapes(79), parents(79))));
+        assert!(!told(&format!("parents 0 {} 0", shapes(80))));
+        assert!(!told(&format!("parents 0 - {}", parents(80))));
         assert!(told(&updates(200)) && !told(&updates(201)));
         assert!(!told("show -") && !told("fields 0 0 0 - -"));
     }

@@ -11,7 +11,7 @@ use std::slice;
 use std::sync::atomic::{AtomicU8, Ordering};
 
 /// More than the greatest number of an answer.
-const NUMBERS: usize = 36;
+const NUMBERS: usize = 39;
 
 /// Which kind of request was answered by which number. libFuzzer takes these for branches, so that it
 /// looks for every number of every kind.

@@ -3,8 +3,8 @@ use crate::buffer::Buffer;
 use crate::library::{Answered, left, lent};
 use crate::names;
 use gateway::{
-    FIELD_WORDS, FieldValue, PositionSyntax, Scene, graph_update, read_metadata, read_position,
-    read_scene, validate_graph,
+    FIELD_WORDS, FieldValue, Outcome, PositionSyntax, Scene, graph_update, read_metadata,
+    read_position, read_scene, validate_graph, write_parents,
 };
 use oracle::answer::{Answer, Field};
 use oracle::request::{Call, Input, List, Question, Request, Shape};
@@ -21,9 +21,39 @@ pub fn answer(request: &Request) -> Result<Answer, String> {
             let answer = validate_graph(&lent(shapes), *at as usize);
             Answered::from(answer).with_shapes(request.kind(), &[])
         }
+        Request::Parents {
+            shapes,
+            parents,
+            room,
+        } => answer_parents(shapes, parents, *room as usize),
         Request::Name { word, room } => names::answer(*word, *room as usize),
         Request::Show { .. } => Err("the library has no shows".into()),
     }
+}
+
+/// The lent shapes must stay as they are. If the packet is written, the library's own update must read
+/// it to its last bit and give the shapes these parents.
+fn answer_parents(shapes: &[Shape], parents: &[usize], room: usize) -> Result<Answer, String> {
+    let given = Buffer::holding(lent(shapes));
+    let mut bytes = Buffer::blank(room);
+    let (answer, packet) = write_parents(given.held()?, parents, bytes.lent());
+    let length = packet.len();
+    if left(given.held()?) != shapes {
+        return Err("a shape was written".into());
+    }
+    let packet = bytes.written(length)?;
+    if answer.outcome == Outcome::Read {
+        let mut updated = given.held()?.to_vec();
+        let update = graph_update(packet, 0, false, &mut [], &mut updated);
+        let is_whole = update.outcome == Outcome::Read && update.position == answer.counted;
+        if !is_whole || !updated.iter().map(|shape| &shape.parent).eq(parents) {
+            return Err(format!("the packet is read as {update:?}"));
+        }
+    }
+    Ok(Answer {
+        packet: packet.to_vec(),
+        ..Answered::from(answer).with_shapes("parents", &[])?
+    })
 }
 
 fn answer_call(call: &Call) -> Result<Answer, String> {
@@ -219,6 +249,29 @@ mod tests {
                     .eq(numbers),
                 "{list}"
             );
+        }
+    }
+
+    /// Packets of document 01's show, each with as many bytes as it takes and with one fewer.
+    #[test]
+    fn packets() {
+        let (before, freed) = ("1:0:0:0:0:0,1:0:0:0:1:0", "1:0:0:0:0:0,1:0:0:0:0:0");
+        for (line, expected) in [
+            ("parents 0 - -".into(), (0, 0, 0)),
+            (format!("parents 1 {before} 0,0"), (0, 0, 7)),
+            (format!("parents 0 {before} 0,0"), (38, 0, 0)),
+            (format!("parents 2 {freed} 2,0"), (0, 0, 13)),
+            (format!("parents 1 {freed} 2,0"), (38, 0, 0)),
+            (format!("parents 1 {before} 2,1"), (9, 0, 0)),
+            (
+                format!("parents 1 {before} 18446744073709551615,1"),
+                (8, 0, 0),
+            ),
+            (format!("parents 1 {before} 0"), (36, 0, 0)),
+            ("parents 1 0:0:0:0:1:0 0".into(), (37, 0, 0)),
+            ("parents 1 0:0:25:0:1:0 0".into(), (2, 0, 0)),
+        ] {
+            assert_eq!(end(&line), expected, "{line}");
         }
     }
 

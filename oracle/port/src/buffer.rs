@@ -17,10 +17,11 @@ impl Blank for u64 {
     }
 }
 
-/// A byte of a text, but never of one in ASCII.
+/// A byte of a text, but never of one in ASCII; and of a packet, the last bit of which is to be 0 where
+/// it is left over.
 impl Blank for u8 {
     fn blank(i: usize) -> Self {
-        0x80 | (i % 128) as u8
+        0x81 | (i % 64 << 1) as u8
     }
 }
 

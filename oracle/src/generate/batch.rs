@@ -63,6 +63,14 @@ impl<'r> Batch<'r> {
         self.requests.push(Request::Validation { at, shapes });
     }
 
+    pub fn parents(&mut self, (shapes, parents): (Vec<Shape>, Vec<usize>), room: u32) {
+        self.requests.push(Request::Parents {
+            shapes,
+            parents,
+            room,
+        });
+    }
+
     pub fn name(&mut self, word: u64, room: u32) {
         self.requests.push(Request::Name { word, room });
     }

@@ -11,10 +11,12 @@ use super::fixed::corners::corners;
 use super::fixed::graphs::{changes, scenes, steps, validations};
 use super::fixed::labels::labelled;
 use super::fixed::names::{AMPLE, greatest, length};
+use super::fixed::parents::{broken, corners as corners_of_parents, exactly_and_short};
 use super::fixed::scripts::limits;
 use super::fixed::shows::{filled, small as small_shows};
 use super::fixed::validations::every_list;
 use super::random::names::{beyond, known, some_room};
+use super::random::parents::wanted_of;
 use super::random::readings::{of_fields, one_of_each, small};
 use super::random::shows::short_show;
 use super::random::validations::{list_of, some_list};
@@ -30,15 +32,19 @@ use std::collections::BTreeSet;
 use std::slice;
 
 /// In the order in which they draw from the seed.
-pub const PARTS: [Part; 5] = [scripts, readings, metadata, names, shows];
+pub const PARTS: [Part; 6] = [scripts, readings, metadata, names, shows, parents];
 
 /// About how large the records are: of scripts, of the drafts of each reading, of validations, of
-/// metadata and of random shows.
+/// metadata, of random shows and of random new parents.
 const SCRIPTS: usize = 118_000;
 const DRAFTS: usize = 22_000;
 const VALIDATIONS: usize = 22_000;
 const METADATA: usize = 115_000;
 const SHOWS: usize = 10_000;
+const PARENTS: usize = 15_000;
+
+/// The most positions of random new parents.
+const FEW_POSITIONS: u64 = 10;
 
 /// Records of more bytes are mostly replaced by such without fields.
 const LONG: usize = 250;
@@ -233,6 +239,22 @@ fn shows(batch: &mut Batch<'_>) {
     fill(batch, from, SHOWS, |batch| {
         let show = short_show(batch.rng);
         batch.show(show);
+    });
+}
+
+/// All that can be wrong together, but for too many positions; the corners; and random new parents of
+/// few positions.
+fn parents(batch: &mut Batch<'_>) {
+    let broken = broken().into_iter();
+    for (wanted, room, _) in broken.filter(|((shapes, _), ..)| shapes.len() < GREATEST_COUNT) {
+        batch.parents(wanted, room);
+    }
+    let corners = corners_of_parents().into_iter();
+    corners.for_each(|wanted| exactly_and_short(batch, wanted));
+    let from = batch.requests.len();
+    fill(batch, from, PARENTS, |batch| {
+        let count = batch.rng.within(0..=FEW_POSITIONS);
+        wanted_of(batch, count as usize);
     });
 }
 

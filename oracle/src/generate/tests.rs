@@ -8,11 +8,12 @@ use super::{Part, fixed, random};
 use crate::answer::{Answer, Outcome};
 use crate::driver::answer;
 use crate::names;
+use crate::ranks::deepest;
 use crate::record::record;
 use crate::request::{List, Question, Request, Shape};
 use crate::rng::Rng;
 use crate::table::{Table, ends};
-use std::collections::BTreeSet;
+use std::collections::{BTreeMap, BTreeSet};
 use std::ops::RangeInclusive;
 use std::sync::LazyLock;
 
@@ -114,7 +115,7 @@ fn sample_is_bounded() {
     let requests = sample();
     let size = |request| record(request).expect("an answer").len();
     assert!((2_500..=4_000).contains(&requests.len()));
-    assert!(requests.iter().map(size).sum::<usize>() <= 745_000);
+    assert!(requests.iter().map(size).sum::<usize>() <= 790_000);
 }
 
 #[test]
@@ -127,6 +128,7 @@ fn sample_reaches_every_number() {
         "validation",
         "metadata",
         "name",
+        "parents",
     ] {
         let numbers = ends(kind);
         let of_kind = answers.iter().filter(|answer| answer.kind == kind);
@@ -327,13 +329,14 @@ fn fixed_shows() {
     }
 }
 
-/// What is asked after them stays as it was before there were graphs, shows and lists.
+/// What is asked after them stays as it was before there were graphs, shows, lists and new parents.
 #[test]
-fn fixed_graphs_shows_and_lists_take_no_random_numbers() {
+fn some_fixed_parts_take_no_random_numbers() {
     let rng = &mut Rng::new(1);
     fixed::graphs::graphs(&mut Batch::new(rng));
     fixed::shows::shows(&mut Batch::new(rng));
     fixed::lists::lists(&mut Batch::new(rng));
+    fixed::parents::parents(&mut Batch::new(rng));
     assert_eq!(rng.next(), Rng::new(1).next());
 }
 
@@ -389,13 +392,15 @@ fn shows_reach_their_limits() {
     }
 }
 
-/// Records of shows take no more than their share of the sample.
+/// Records of shows and of new parents take no more than their share of the sample.
 #[test]
-fn stored_shows_are_bounded() {
+fn stored_shows_and_parents_are_bounded() {
     let requests = sample();
-    let shows = requests.iter().filter(|request| request.kind() == "show");
-    let size = |request| record(request).expect("an answer").len();
-    assert!(shows.map(size).sum::<usize>() <= 300_000);
+    for (kind, most) in [("show", 300_000), ("parents", 45_000)] {
+        let of_kind = requests.iter().filter(|request| request.kind() == kind);
+        let size = |request| record(request).expect("an answer").len();
+        assert!(of_kind.map(size).sum::<usize>() <= most, "{kind}");
+    }
 }
 
 /// The random lists with the answers of their packets.
@@ -480,4 +485,154 @@ fn lists_change_their_shapes() {
         "{} {latest}",
         offsets.len()
     );
+}
+
+/// A request for new parents, with its answer.
+struct Wanted {
+    shapes: Vec<Shape>,
+    parents: Vec<usize>,
+    room: u32,
+    answer: Answer,
+}
+
+impl Wanted {
+    fn new(request: Request) -> Option<Self> {
+        let answer = answer(&request);
+        match request {
+            Request::Parents {
+                shapes,
+                parents,
+                room,
+            } => Some(Self {
+                shapes,
+                parents,
+                room,
+                answer,
+            }),
+            _ => None,
+        }
+    }
+
+    fn is_answered_by(&self, number: u8) -> bool {
+        self.answer.verdict.number == number
+    }
+
+    /// How many bytes are lent beyond those of the packet.
+    fn bytes_more(&self) -> usize {
+        self.room as usize - self.answer.packet.len()
+    }
+
+    fn pairs(&self) -> impl Iterator<Item = (&Shape, usize)> {
+        self.shapes.iter().zip(self.parents.iter().copied())
+    }
+
+    /// Whether any position, or each, is such and is to have such a parent.
+    fn any(&self, is_such: fn(&Shape, usize) -> bool) -> bool {
+        self.pairs().any(|(shape, parent)| is_such(shape, parent))
+    }
+
+    fn all(&self, are_such: fn(&Shape, usize) -> bool) -> bool {
+        self.pairs().all(|(shape, parent)| are_such(shape, parent))
+    }
+}
+
+/// The fixed requests for new parents, and one round of the random ones.
+static PARENTS: LazyLock<Vec<Wanted>> = LazyLock::new(|| {
+    let requests = [fixed::parents::parents, random::parents::parents].map(requests);
+    let requests = requests.into_iter().flatten();
+    requests.filter_map(Wanted::new).collect()
+});
+
+fn answered_by(number: u8) -> impl Iterator<Item = &'static Wanted> {
+    let wanted = PARENTS.iter();
+    wanted.filter(move |wanted| wanted.is_answered_by(number))
+}
+
+#[test]
+fn parents_reach_every_number() {
+    for &number in ends("parents") {
+        let times = answered_by(number).count();
+        assert!(times >= 100, "{number}: {times}");
+    }
+}
+
+/// Of all that is wrong together the first decides.
+#[test]
+fn broken_parents_give_the_first_number() {
+    let broken = fixed::parents::broken();
+    for ((shapes, parents), room, number) in &broken {
+        let request = Request::Parents {
+            shapes: shapes.clone(),
+            parents: parents.clone(),
+            room: *room,
+        };
+        let verdict = answer(&request).verdict;
+        assert_eq!(
+            (verdict.number, verdict.position),
+            (*number, 0),
+            "{request}"
+        );
+    }
+    let numbers: BTreeSet<u8> = broken.iter().map(|(_, _, number)| *number).collect();
+    assert!(numbers.iter().eq(ends("parents")));
+}
+
+/// A position of a packet that stays, is freed or is hung, whatever may change of it.
+#[test]
+fn packets_have_every_part() {
+    let mut parts = BTreeMap::new();
+    for (shape, parent) in answered_by(0).flat_map(Wanted::pairs) {
+        let part = match parent {
+            _ if parent == shape.parent => "kept",
+            0 => "freed",
+            _ => "hung",
+        };
+        let part = (part, shape.parent_dynamic, shape.range_dynamic);
+        *parts.entry(part).or_insert(0) += 1;
+    }
+    assert!(parts.len() == 8, "{parts:?}");
+    assert!(parts.values().all(|&times| times >= 100), "{parts:?}");
+}
+
+/// Every count of positions, every length up to 64 bits, every parent.
+#[test]
+fn packets_reach_their_limits() {
+    let each = |value: fn(&Wanted) -> usize| answered_by(0).map(value).collect::<BTreeSet<_>>();
+    assert!(each(|wanted| wanted.shapes.len()).into_iter().eq(0..=63));
+    let lengths = each(|wanted| wanted.answer.count);
+    assert!((0..=64).all(|length| lengths.contains(&length)));
+    let parents = answered_by(0).flat_map(|wanted| wanted.parents.clone());
+    assert!(parents.collect::<BTreeSet<_>>().into_iter().eq(0..=63));
+}
+
+/// Buffers as long as the packet and a byte longer, all positions kept and all changed, and old parents
+/// above 63 and without ranks.
+#[test]
+fn packets_reach_their_corners() {
+    for (count, bytes_more) in [0, 1, 63].into_iter().flat_map(|n| [(n, 0), (n, 1)]) {
+        let has =
+            |wanted: &Wanted| wanted.shapes.len() == count && wanted.bytes_more() == bytes_more;
+        assert!(answered_by(0).any(has), "{count} {bytes_more}");
+    }
+    let of_63 = || answered_by(0).filter(|wanted| wanted.shapes.len() == 63);
+    assert!(of_63().any(|wanted| wanted.all(|shape, parent| shape.parent == parent)));
+    assert!(of_63().any(|wanted| wanted.all(|shape, parent| shape.parent != parent)));
+    assert!(of_63().any(|wanted| wanted.any(|shape, _| shape.parent > 63)));
+    assert!(of_63().any(|wanted| deepest(&wanted.shapes).is_none()));
+}
+
+/// Parents that are not declared: one above 63 that stays or is new, and one whose lowest six bits
+/// are the number of a position.
+#[test]
+fn parents_above_63_are_refused() {
+    let times = |is_such: fn(&Shape, usize) -> bool| {
+        answered_by(8).filter(|wanted| wanted.any(is_such)).count()
+    };
+    assert!(times(|shape, parent| parent > 63 && shape.parent == parent) >= 100);
+    assert!(times(|shape, parent| parent > 63 && shape.parent != parent) >= 100);
+    let wrapped = |wanted: &&Wanted| {
+        let mut pairs = wanted.pairs();
+        pairs.any(|(_, parent)| parent > 63 && (1..=wanted.shapes.len()).contains(&(parent % 64)))
+    };
+    assert!(answered_by(8).filter(wrapped).count() >= 100);
 }

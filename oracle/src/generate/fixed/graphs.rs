@@ -74,6 +74,11 @@ pub fn pairs() -> impl Iterator<Item = (Parents, Parents)> {
     forms().into_iter().zip(next)
 }
 
+/// Chains of 62 that leave the declared numbers or close a circle.
+pub fn spoilt_chains() -> [Parents; SPOILT.len()] {
+    SPOILT.map(spoilt)
+}
+
 /// The chain of 62 with some of its positions hung elsewhere.
 fn spoilt(elsewhere: &[(usize, u64)]) -> Parents {
     let mut parents = chain_of_62();
@@ -92,7 +97,7 @@ pub fn scenes() -> Vec<Good> {
 }
 
 fn spoilt_scenes() -> Vec<Good> {
-    SPOILT.iter().map(|&some| scene(&spoilt(some))).collect()
+    spoilt_chains().iter().map(|chain| scene(chain)).collect()
 }
 
 fn scene(parents: &[u64]) -> Good {
@@ -168,7 +173,7 @@ pub fn validations() -> Vec<Vec<Shape>> {
 /// The chain of 62 spoilt, and one position too many.
 fn spoilt_validations() -> Vec<Vec<Shape>> {
     let longer: Parents = (0..=GREATEST_COUNT as u64).collect();
-    let lists = SPOILT.iter().map(|&some| spoilt(some)).chain([longer]);
+    let lists = spoilt_chains().into_iter().chain([longer]);
     lists.map(|parents| shapes(&parents)).collect()
 }
 

@@ -6,6 +6,7 @@ pub mod graphs;
 pub mod labels;
 pub mod lists;
 pub mod names;
+pub mod parents;
 pub mod scripts;
 mod short;
 pub mod shows;
@@ -14,7 +15,7 @@ pub mod validations;
 use super::Part;
 
 /// In the order in which they draw from the seed.
-pub const PARTS: [Part; 13] = [
+pub const PARTS: [Part; 14] = [
     short::short,
     boundaries::boundaries,
     corners::every_corner,
@@ -28,4 +29,5 @@ pub const PARTS: [Part; 13] = [
     names::every_pair,
     shows::shows,
     lists::lists,
+    parents::parents,
 ];

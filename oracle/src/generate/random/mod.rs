@@ -2,6 +2,7 @@
 pub mod lists;
 pub mod names;
 mod noise;
+pub mod parents;
 pub mod readings;
 mod scripts;
 pub mod shows;
@@ -10,7 +11,7 @@ pub mod validations;
 use super::Part;
 
 /// In the order in which they draw from the seed.
-pub const PARTS: [Part; 9] = [
+pub const PARTS: [Part; 10] = [
     noise::noise,
     readings::scenes_and_updates,
     readings::each_kind,
@@ -20,4 +21,5 @@ pub const PARTS: [Part; 9] = [
     names::names,
     shows::shows,
     lists::lists,
+    parents::parents,
 ];

@@ -30,7 +30,7 @@ pub fn list_of(batch: &mut Batch<'_>, count: usize) {
 }
 
 /// Few or many positions, rarely more than there may be.
-fn some_count(rng: &mut Rng) -> usize {
+pub fn some_count(rng: &mut Rng) -> usize {
     let most = GREATEST_COUNT as u64;
     let count = match rng.below(20) {
         0 => rng.within(most - 1..=most + 2),

@@ -1,0 +1,5 @@
+pub mod Bits
+pub mod Fewest
+pub mod Takes
+pub mod Given
+pub mod Shortest
