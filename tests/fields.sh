@@ -1,7 +1,7 @@
 #!/usr/bin/env bash
 # Runs scene-fields as people do: the recorded runs, from a file, from a pipe, on input that is empty, slow or too long, where
-# reading or writing fails, with wrong arguments; the greatest listings against the clock; and then on every scene, every
-# metadata and every part of a show of some samples, whose listing must be the oracle's.
+# reading or writing fails, where bits follow the end of a part, with wrong arguments; the greatest listings against the clock; and
+# then on every scene, every metadata and every part of a show of some samples, whose listing must be the oracle's.
 set -euo pipefail
 cd "$(dirname "$0")/.."
 program=bin/scene-fields
@@ -48,6 +48,43 @@ expect 0 "" "$work/missing" part 1 999999999999999999 <docs/worked.show
 expect 1 "scene-fields: no such part in the show" "$work/nothing" part 4 <docs/worked.show
 expect 1 "scene-fields: no such part in the show" "$work/nothing" part 999999999999999999 <docs/worked.show
 
+# What follows the end of a part: a scene of no positions with a byte more, as a part and as a scene.
+followed="eight or more bits follow, or one of them is 1"
+count=ancillary.scene_graph.count
+text longer "0 6 0 $count" "refused 39 at 6: $followed"
+text alone "0 6 0 $count" "read 6 fields 1"
+printf '\0\2\0\0\0\12\0\0\0\14\0\0' >"$work/longer.show"
+expect 0 "" "$work/longer" part 0 <"$work/longer.show"
+expect 1 "scene-fields: part 0 of the show is not read, so no update is" "$work/nothing" part 1 <"$work/longer.show"
+expect 0 "" "$work/alone" scene < <(printf '\0\0')
+
+# The scene of the shipped example, then its last two packets as one part, and the last of them once more. The fields of the first
+# of the two are listed. It would free position 2, and so the last one closes a circle, as part 1 of the example does.
+position=ancillary.scene_graph.positions
+text joined "0 1 0 ${position}[0].updated" "1 1 1 ${position}[1].updated" "2 1 1 ${position}[1].parent_update" \
+  "3 1 1 ${position}[1].absolute_parent" "4 1 0 ${position}[1].position_present" "5 1 0 ${position}[1].rotation_present" \
+  "6 1 0 ${position}[1].extensions_present" "refused 39 at 7: $followed"
+{
+  printf '\0\3\0\0\0\16\0\0\0\24\0\0\0\27'
+  head -c 24 docs/worked.show | tail -c 6
+  tail -c 3 docs/worked.show
+  tail -c 2 docs/worked.show
+} >"$work/joined.show"
+expect 0 "" "$work/joined" part 1 <"$work/joined.show"
+expect 0 "" "$worked" part 2 <"$work/joined.show"
+# The shipped example with a 1 as the last bit of part 2, and with a newline at its end.
+expect 0 "" "$work/joined" part 2 < <(head -c 26 docs/worked.show && printf '\161' && tail -c 2 docs/worked.show)
+{
+  head -n 8 "$worked"
+  echo "refused 39 at 13: $followed"
+} >"$work/newline"
+expect 0 "" "$work/newline" part 3 < <(cat docs/worked.show && echo)
+# From another bit of a part the bits after the end are looked at too: from bit 1 on the part reads to bit 7, and a 1 follows.
+text later "1 1 1 ${position}[0].updated" "2 1 0 ${position}[0].parent_update" "3 1 0 ${position}[0].position_present" \
+  "4 1 0 ${position}[0].rotation_present" "5 1 0 ${position}[0].extensions_present" "6 1 0 ${position}[1].updated" \
+  "refused 39 at 7: $followed"
+expect 0 "" "$work/later" part 3 1 <docs/worked.show
+
 # Reading or writing fails.
 for words in scene metadata "part 1"; do
   expect 1 "scene-fields: standard input: Is a directory" "$work/nothing" $words <docs
@@ -93,7 +130,6 @@ zeros() {
   head -c "$1" /dev/zero
 }
 zeros "$greatest" >"$work/greatest"
-count=ancillary.scene_graph.count
 text first "0 6 0 $count" "read 6 fields 1"
 text last "$((end - 6)) 6 0 $count" "read $end fields 1"
 text cut "refused 3 at $((end - 5)): $missing"
@@ -134,11 +170,15 @@ quickly() {
 }
 
 # The greatest listings, those of 16,384 fields, some of them refused with 4, and with zeros after them up to the greatest
-# input. The bits after a reading are not looked at, so that these are listed as without them.
+# input. The bits after a scene or metadata are not looked at, so that these are listed as without them; none of them is a part.
 quick=0
 refused=0
 for listing in $(find "$cases" -name '*.out' -size +1000000c); do
   n=$(basename "$listing" .out)
+  if [[ $(<"$cases/$n.args") == part* ]]; then
+    echo "case $n is a part of a show, which cannot have zeros after it"
+    exit 1
+  fi
   [ "$(wc -l <"$listing")" = 16385 ]
   if [[ $(tail -n 1 "$listing") == "refused 4 at "* ]]; then refused=$((refused + 1)); fi
   cp "$cases/$n.in" "$work/greatest"

@@ -83,7 +83,7 @@ edited docs/FIELDS.md 's/`range_update`/`range_encoded`/'
 finds docs/FIELDS.md
 
 # A header that lacks a number of the paper, and one with a number that the paper does not have or with that of a show file.
-edited docs/NUMBERS.md '/^\| 38 /a | 39 | words |'
+edited docs/NUMBERS.md '/^\| 39 /a | 40 | words |'
 finds "$header"
 edited "$header" '/GATEWAY_HRTF_TYPE/d'
 finds "$header"

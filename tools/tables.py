@@ -31,7 +31,7 @@ pub const THIRD: u64 = {2**38};""",
     f"pub const FOURTH: u64 = {2**51};",
 ]
 # The numbers of show files, which the header does not have.
-SHOW_FILES = {23, 24}
+SHOW_FILES = {23, 24, 39}
 # What the text of a leaf begins with that has no name in code: a reading adds `resource` to the leaf without it.
 RESOURCE = "resource."
 

@@ -12,6 +12,11 @@ impl Bits {
         self.0.is_empty()
     }
 
+    /// Whether any of them is 1.
+    pub fn any(&self) -> bool {
+        self.0.contains(&true)
+    }
+
     pub fn push(&mut self, bit: bool) {
         self.0.push(bit);
     }

@@ -118,7 +118,7 @@ fn of_call(call: &Call) -> Result<Case, String> {
         return Ok(Case::reported(arguments, &call.bytes, USAGE));
     }
     let input = Input::from(call.bytes.as_slice()).at_bit(call.offset);
-    let text = listing(call.question.clone(), input)?;
+    let text = listing(&recorded(call.question.clone(), input))?;
     Ok(Case::printed(arguments, &call.bytes, text))
 }
 
@@ -148,7 +148,8 @@ fn of_show(file: &[u8]) -> Result<Vec<Case>, String> {
             continue;
         };
         for bit in bits(part, k + 1 == parts.len()) {
-            let text = listing(question.clone(), Input::from(*part).at_bit(bit))?;
+            let reading = recorded(question.clone(), Input::from(*part).at_bit(bit));
+            let text = listing(&show::ended(&question, part, reading))?;
             cases.push(Case::printed(with_bit(&arguments, bit), file, text));
         }
     }
@@ -168,9 +169,8 @@ fn bits(part: &[u8], last: bool) -> Vec<u64> {
     }
 }
 
-/// What is printed for an input.
-fn listing(question: Question, input: Input) -> Result<String, String> {
-    let answer = recorded(question, input);
+/// What is printed for an answer.
+fn listing(answer: &Answer) -> Result<String, String> {
     let lines: String = answer.fields.iter().map(field_line).collect();
     Ok(lines + &outcome_line(&answer.verdict, answer.count)?)
 }
@@ -234,12 +234,15 @@ fn row(line: &'static str) -> Option<(u8, &'static str)> {
 #[cfg(test)]
 mod tests {
     use super::*;
-    use crate::generate::corners;
+    use crate::generate::{self, corners};
     use crate::text::hex;
     use apac::numbers::{REFUSALS, STOPS};
 
     /// Document 01's show.
     const EXAMPLE: &str = "00040000001200000018 0000001a0000001b 0a0080800080 c100 70 c100";
+
+    /// The words of 39.
+    const FOLLOWED: &str = "eight or more bits follow, or one of them is 1";
 
     fn asked(line: &str) -> Vec<Case> {
         let request = Request::parse(line).expect("a request");
@@ -299,7 +302,7 @@ refused 9 at 13: a chain of parents closes a circle
         assert_eq!(last("part 2"), "read 7 fields 7");
         assert_eq!(last("part 3"), "read 13 fields 8");
         let missing = "the bits asked for are not there";
-        assert_eq!(last("part 3 1"), "read 7 fields 6");
+        assert_eq!(last("part 3 1"), format!("refused 39 at 7: {FOLLOWED}"));
         assert_eq!(last("part 3 16"), format!("refused 3 at 16: {missing}"));
         assert_eq!(last("part 3 17"), format!("refused 3 at 0: {missing}"));
         let beyond = case_with(&cases, "part 4");
@@ -307,7 +310,60 @@ refused 9 at 13: a chain of parents closes a circle
         assert_eq!(cases.len(), 8);
     }
 
-    /// Only part 0 has a listing if it is not read.
+    /// Two packets in one part. The fields of the first are listed, and the parts after it are read
+    /// against the shapes of the scene: the position that it freed still hangs on the other.
+    #[test]
+    fn parts_with_more_after_their_end() {
+        let cases = of_file("0003 0000000e 00000014 00000017 0a0080800080 70c100 c100");
+        assert_eq!(
+            case_with(&cases, "part 1").printed,
+            format!(
+                "0 1 0 ancillary.scene_graph.positions[0].updated
+1 1 1 ancillary.scene_graph.positions[1].updated
+2 1 1 ancillary.scene_graph.positions[1].parent_update
+3 1 1 ancillary.scene_graph.positions[1].absolute_parent
+4 1 0 ancillary.scene_graph.positions[1].position_present
+5 1 0 ancillary.scene_graph.positions[1].rotation_present
+6 1 0 ancillary.scene_graph.positions[1].extensions_present
+refused 39 at 7: {FOLLOWED}
+"
+            )
+        );
+        let circle = "\nrefused 9 at 13: a chain of parents closes a circle\n";
+        assert!(case_with(&cases, "part 2").printed.ends_with(circle));
+    }
+
+    /// From whatever bit a part is read, the bits after its end are asked for.
+    #[test]
+    fn bits_after_an_end_from_another_bit() {
+        let cases = of_file("0002 0000000a 0000000b 00 00");
+        let printed = |arguments: &str| &*case_with(&cases, arguments).printed;
+        let followed = |at: u64| format!("refused 39 at {at}: {FOLLOWED}\n");
+        assert_eq!(printed("part 1"), followed(0));
+        assert_eq!(printed("part 1 1"), "read 1 fields 0\n");
+        assert_eq!(printed("part 1 8"), "read 8 fields 0\n");
+        let cases = of_file("0001 00000006 0100");
+        let count = "0 6 0 ancillary.scene_graph.count\n";
+        let next = "1 6 0 ancillary.scene_graph.count\n";
+        let printed = |arguments: &str| &*case_with(&cases, arguments).printed;
+        assert_eq!(printed("part 0"), [count, &followed(6)].concat());
+        assert_eq!(printed("part 0 1"), [next, &followed(7)].concat());
+    }
+
+    /// Parts of the stored sample, most of them listed from their first bit on.
+    #[test]
+    fn what_follows_is_often_refused() {
+        let requests = generate::sample(1).flatten();
+        let shows = requests.filter(|request| request.kind() == "show");
+        let cases = shows.flat_map(|show| cases(&show).expect("an answer to each"));
+        let last = format!(": {FOLLOWED}\n");
+        let refused: Vec<Case> = cases.filter(|case| case.printed.ends_with(&last)).collect();
+        let words = |case: &&Case| case.arguments.split(' ').count();
+        assert!(refused.iter().filter(|case| words(case) == 2).count() >= 300);
+        assert!(refused.iter().filter(|case| words(case) == 3).count() >= 50);
+    }
+
+    /// Only part 0 has a listing if it is not read, or refused for what follows its end.
     #[test]
     fn parts_without_a_scene() {
         let cases = of_file("0003 0000000e 0000000f 0000000f 04 70");
@@ -319,6 +375,10 @@ refused 9 at 13: a chain of parents closes a circle
         }
         assert_eq!(case_with(&cases, "part 3").report, NO_PART);
         assert_eq!(cases.len(), 4);
+        let cases = of_file("0002 0000000a 0000000c 0000");
+        let followed = format!("0 6 0 ancillary.scene_graph.count\nrefused 39 at 6: {FOLLOWED}\n");
+        assert_eq!(case_with(&cases, "part 0").printed, followed);
+        assert_eq!(case_with(&cases, "part 1").report, NO_SCENE);
     }
 
     /// Bits of a part are not bits of the file.
@@ -416,7 +476,9 @@ refused 9 at 13: a chain of parents closes a circle
     #[test]
     fn every_number_has_words() {
         let given = REFUSALS.iter().chain(&STOPS).map(|row| row.0);
-        let mut numbers: Vec<u8> = given.chain([1, 2, 5, 23, 24, 25, 26, 36, 37, 38]).collect();
+        let mut numbers: Vec<u8> = given
+            .chain([1, 2, 5, 23, 24, 25, 26, 36, 37, 38, 39])
+            .collect();
         numbers.sort();
         let rows: Vec<u8> = PAPER.lines().filter_map(row).map(|row| row.0).collect();
         assert_eq!(rows, numbers);

@@ -1,6 +1,8 @@
 //! Show files. Their header is document 01's, the printed lines are its and document 02's, and the
-//! ranks are the oracle's; what the parts give is asked of the Rust.
+//! ranks are the oracle's; what the parts give is asked of the Rust, and then the rule of document 02
+//! on what follows a part's end.
 use crate::answer::{Answer, Outcome, Verdict};
+use crate::bits::Bits;
 use crate::driver::read;
 use crate::ranks::ranks;
 use crate::request::{Input, Question, Shape};
@@ -92,9 +94,37 @@ pub fn answers(parts: &[&[u8]]) -> Vec<Answer> {
         let Some(question) = next_question(&answers) else {
             break;
         };
-        answers.push(read(question, Input::from(*part)));
+        answers.push(read_part(question, part));
     }
     answers
+}
+
+/// What a part gives, read from its first bit on, without recording.
+pub fn read_part(question: Question, part: &[u8]) -> Answer {
+    let reading = read(question.clone(), Input::from(part));
+    ended(&question, part, reading)
+}
+
+/// What a part gives whose reading gave this. 39 is asked after all other questions, so only of what
+/// was read. If it refuses the part, the shapes are those from before, and the fields stay counted.
+pub fn ended(question: &Question, part: &[u8], reading: Answer) -> Answer {
+    let Verdict {
+        outcome, position, ..
+    } = &reading.verdict;
+    if *outcome != Outcome::Read || may_follow(&Bits::from(part).after(*position as usize)) {
+        return reading;
+    }
+    let refused = Verdict::refused(39, *position);
+    Answer {
+        count: reading.count,
+        fields: reading.fields,
+        ..Answer::bare(reading.kind, refused, question.shapes())
+    }
+}
+
+/// Whether these may be all bits after a part's end: fewer than eight, all of them 0.
+fn may_follow(bits: &Bits) -> bool {
+    bits.len() < 8 && !bits.any()
 }
 
 /// What is asked of the part after those with these answers; nothing if part 0 was not read.
@@ -103,7 +133,7 @@ pub fn next_question(before: &[Answer]) -> Option<Question> {
         return Some(Question::Scene);
     };
     let read = scene.verdict.outcome == Outcome::Read;
-    // An update that was not read hands back the shapes as they were.
+    // An update that was refused hands back the shapes as they were.
     read.then(|| Question::Update(last.shapes.clone()))
 }
 
@@ -125,6 +155,17 @@ fn part_line(k: usize, answer: &Answer) -> Result<String, Outcome> {
     }
 }
 
+/// The part of a printed line, its outcome, and the number, 0 if it was read. Nothing if the line is
+/// not a part's.
+pub fn part_end(line: &str) -> Option<(&str, &str, u8)> {
+    let words: Vec<&str> = line.split(' ').collect();
+    match words.as_slice() {
+        ["part", part, "read", _, "fields", _] => Some((part, "read", 0)),
+        ["part", part, outcome, number, "at", _] => Some((part, outcome, number.parse().ok()?)),
+        _ => None,
+    }
+}
+
 /// One line for each position, and then the largest rank of these lines, 0 if there are none. The
 /// Rust has validated the parents, so that all have a rank.
 fn position_lines(shapes: &[Shape]) -> Result<String, Outcome> {
@@ -142,7 +183,9 @@ fn position_lines(shapes: &[Shape]) -> Result<String, Outcome> {
 #[cfg(test)]
 mod tests {
     use super::*;
+    use crate::generate::file;
     use crate::ranks::hung;
+    use crate::text::unhex;
 
     /// Document 01's show.
     const EXAMPLE: [u8; 29] = [
@@ -178,7 +221,15 @@ deepest 2
     fn files_of_the_greatest_size() {
         let mut file = EXAMPLE.to_vec();
         file.resize(GREATEST_FILE, 0xff);
-        assert_eq!(text(&file), LINES);
+        let lines = "part 0 read 48 fields 20
+part 1 refused 9 at 13
+part 2 read 7 fields 7
+part 3 refused 39 at 13
+position 1 parent 0 rank 1
+position 2 parent 0 rank 1
+deepest 1
+";
+        assert_eq!(text(&file), lines);
         file.push(0);
         assert_eq!(text(&file), "file refused 23\n");
         file[1] = 0;
@@ -223,11 +274,137 @@ deepest 2
         assert_eq!(text(&with_offsets(&[6], 0)), empty);
         assert_eq!(text(&with_offsets(&[10, 10], 1)), empty);
         assert_eq!(
-            text(&with_offsets(&[10, 19], 9)),
+            text(&with_offsets(&[10, 11], 1)),
             "part 0 read 6 fields 1\npart 1 read 0 fields 0\ndeepest 0\n"
         );
         let most = text(&with_offsets(&[2 + 4 * 256; 256], 9));
         assert_eq!(most, empty);
+    }
+
+    fn zeros(length: usize) -> Bits {
+        let mut bits = Bits::default();
+        bits.put(0, length);
+        bits
+    }
+
+    #[test]
+    fn bits_after_an_end() {
+        for length in 0..=20 {
+            assert_eq!(may_follow(&zeros(length)), length <= 7, "{length}");
+            for place in 0..length {
+                let mut bits = zeros(length);
+                bits.flip(place);
+                assert!(!may_follow(&bits), "{length} {place}");
+            }
+        }
+    }
+
+    /// An update of so many positions none of which is updated takes as many bits, all of them 0.
+    #[test]
+    fn every_end_within_a_byte() {
+        for count in 0..=16 {
+            let shapes = hung(&vec![0; count]);
+            let is_given = |part: &Bits, number: u8| {
+                let answer = read_part(Question::Update(shapes.clone()), &part.bytes());
+                let Verdict {
+                    number: found,
+                    position,
+                    ..
+                } = answer.verdict;
+                let end = (found, position, answer.count);
+                assert_eq!(end, (number, count as u64, count), "{part:?}");
+            };
+            for more in 0..=2 {
+                let part = zeros(8 * (count.div_ceil(8) + more));
+                is_given(&part, if more == 0 { 0 } else { 39 });
+                for place in count..part.len() {
+                    let mut part = part.clone();
+                    part.flip(place);
+                    is_given(&part, 39);
+                }
+            }
+        }
+    }
+
+    /// A file of these parts, in hexadecimal digits.
+    fn of_parts(parts: &[&str]) -> Vec<u8> {
+        let parts = parts.iter().map(|digits| unhex(digits).expect("digits"));
+        file(&parts.collect::<Vec<_>>())
+    }
+
+    fn lines(parts: &[&str]) -> Vec<String> {
+        text(&of_parts(parts)).lines().map(String::from).collect()
+    }
+
+    /// The scene hangs the second position on the first one. A packet that frees it, with a byte more,
+    /// with another packet, with a 1 in its last byte; then one that closes a circle unless it was freed.
+    #[test]
+    fn shapes_from_before_a_part() {
+        for spoilt in ["7000", "70c100", "71", "7080"] {
+            let parts = ["0a0080800080", spoilt, "c100", "70", "c100"];
+            let expected = [
+                "part 0 read 48 fields 20",
+                "part 1 refused 39 at 7",
+                "part 2 refused 9 at 13",
+                "part 3 read 7 fields 7",
+                "part 4 read 13 fields 8",
+                "position 1 parent 2 rank 2",
+                "position 2 parent 0 rank 1",
+                "deepest 2",
+            ];
+            assert_eq!(lines(&parts), expected, "{spoilt}");
+        }
+    }
+
+    /// Coordinates become polar, and then a change of them has two numbers, not three.
+    #[test]
+    fn polar_from_before_a_part() {
+        for (part, ends) in [
+            ("d00000", ["read 24 fields 9", "read 10 fields 7"]),
+            ("d0000000", ["refused 39 at 24", "read 11 fields 8"]),
+        ] {
+            let lines = lines(&["04000000", part, "e000"]);
+            let ends = [1, 2].map(|k| format!("part {k} {}", ends[k - 1]));
+            assert_eq!(lines[1..3], ends);
+        }
+    }
+
+    /// Whatever follows, what the reading refuses is refused by its own number.
+    #[test]
+    fn the_last_question() {
+        let scene = "0a0080800080";
+        for (part, line) in [
+            ("c1", "part 1 refused 3 at 3"),
+            ("c107ff", "part 1 refused 9 at 13"),
+            ("c18000", "part 1 refused 8 at 13"),
+            ("71ff", "part 1 refused 39 at 7"),
+        ] {
+            assert_eq!(lines(&[scene, part])[1], line);
+        }
+        for (part, line) in [
+            ("04ff", "part 0 refused 6 at 6"),
+            ("04000400ff", "part 0 refused 8 at 30"),
+            ("0400020000", "part 0 refused 9 at 30"),
+            ("0400000000", "part 0 refused 39 at 30"),
+            ("0000", "part 0 refused 39 at 6"),
+            ("01", "part 0 refused 39 at 6"),
+            ("02", "part 0 refused 39 at 6"),
+        ] {
+            assert_eq!(lines(&[part, "", "00"]), [line]);
+        }
+    }
+
+    #[test]
+    fn parts_where_there_are_no_positions() {
+        let expected = [
+            "part 0 read 6 fields 1",
+            "part 1 read 0 fields 0",
+            "part 2 refused 39 at 0",
+            "part 3 refused 39 at 0",
+            "part 4 read 0 fields 0",
+            "deepest 0",
+        ];
+        assert_eq!(lines(&["00", "", "00", "80", ""]), expected);
     }
 
     /// The largest rank is not always that of the last position, nor of the first.
@@ -283,7 +460,8 @@ deepest 2
             ..Verdict::refused(34, 5)
         };
         let answer = Answer::bare("update", stopped, &[]);
-        let line = part_line(255, &answer);
-        assert_eq!(line, Ok("part 255 stopped 34 at 5\n".into()));
+        let line = part_line(255, &answer).expect("a line");
+        assert_eq!(line, "part 255 stopped 34 at 5\n");
+        assert_eq!(part_end(line.trim_end()), Some(("255", "stopped", 34)));
     }
 }

@@ -1,14 +1,16 @@
 //! How often each number occurs, by kind of request.
 use crate::answer::Answer;
+use crate::show::part_end;
 use crate::text::{Words, number};
 use apac::numbers::{REFUSALS, STOPS};
 use std::collections::BTreeMap;
 use std::fmt;
 
 /// The kinds of requests with the numbers that each can give, beside 1, which takes an input of more
-/// than 8 MiB. Of a list its scene counts as one answer, and each of its updates. Scripts can be told
-/// to end in any number, so that none is asked of them.
-const ENDS: [(&str, &[u8]); 11] = [
+/// than 8 MiB. Of a list its scene counts as one answer, and each of its updates; of a show its file,
+/// its scene, and each of its updates. Scripts can be told to end in any number, so that none is asked
+/// of them.
+const ENDS: [(&str, &[u8]); 13] = [
     ("scene", &[0, 3, 5, 6, 7, 8, 9]),
     ("update", &[0, 2, 3, 5, 7, 8, 9]),
     ("position", &[0, 2, 3, 5, 7]),
@@ -23,6 +25,8 @@ const ENDS: [(&str, &[u8]); 11] = [
     ("parents", &[0, 2, 8, 9, 36, 37, 38]),
     ("name", &[0, 25, 26]),
     ("show", &[0, 23, 24]),
+    ("show scene", &[0, 3, 6, 7, 8, 9, 39]),
+    ("show update", &[0, 3, 7, 8, 9, 39]),
     ("list scene", &[0, 3, 5, 6, 7, 8, 9]),
     ("list update", &[0, 3, 5, 7, 8, 9]),
     ("fields", &[]),
@@ -32,10 +36,10 @@ const ENDS: [(&str, &[u8]); 11] = [
 const ENOUGH: usize = 5;
 
 /// Read, and the questions that documents 01 and 02 add.
-const ADDED: [u8; 11] = [0, 1, 2, 5, 23, 24, 25, 26, 36, 37, 38];
+const ADDED: [u8; 12] = [0, 1, 2, 5, 23, 24, 25, 26, 36, 37, 38, 39];
 
-/// The place of a list's packets in its answer line, counted from 0.
-const PACKETS: usize = 8;
+/// The place of a list's packets in its answer line, and of what is printed for a show, counted from 0.
+const LAST: usize = 8;
 
 type Row = [usize; ENDS.len()];
 
@@ -47,7 +51,7 @@ pub struct Table {
 }
 
 impl Table {
-    /// Counts an answer; of a list those of its packets.
+    /// Counts an answer; of a list those of its packets, and of a show those of its parts too.
     pub fn count(&mut self, answer: &Answer) -> Result<(), String> {
         let mut count = |within, Answer { kind, verdict, .. }: &Answer| {
             self.add(within, kind, &verdict.outcome.to_string(), verdict.number)
@@ -57,6 +61,10 @@ impl Table {
                 .packets
                 .iter()
                 .try_for_each(|packet| count("list ", packet)),
+            "show" => {
+                count("", answer)?;
+                self.count_parts(answer.text.iter().flat_map(|text| text.lines()))
+            }
             _ => count("", answer),
         }
     }
@@ -68,14 +76,26 @@ impl Table {
             let (kind, outcome) = (words.next()?, words.next()?);
             self.add(within, kind, outcome, number(words.next()?)?)
         };
+        let last = || line.splitn(LAST + 1, ' ').nth(LAST).unwrap_or_default();
         match line.split(' ').next() {
-            Some("list") => {
-                let packets = line.splitn(PACKETS + 1, ' ').nth(PACKETS);
-                let mut packets = packets.unwrap_or_default().split('|');
-                packets.try_for_each(|packet| count("list ", packet))
+            Some("list") => last()
+                .split('|')
+                .try_for_each(|packet| count("list ", packet)),
+            Some("show") => {
+                count("", line)?;
+                self.count_parts(last().split('/'))
             }
             _ => count("", line),
         }
+    }
+
+    /// Counts the parts of which the printed lines of a show tell.
+    fn count_parts<'a>(&mut self, mut lines: impl Iterator<Item = &'a str>) -> Result<(), String> {
+        lines.try_for_each(|line| match part_end(line) {
+            Some(("0", outcome, number)) => self.add("show ", "scene", outcome, number),
+            Some((_, outcome, number)) => self.add("show ", "update", outcome, number),
+            None => Ok(()),
+        })
     }
 
     fn add(&mut self, within: &str, kind: &str, outcome: &str, number: u8) -> Result<(), String> {
@@ -179,13 +199,27 @@ mod tests {
         table
     }
 
+    /// What is printed for shows that reach every number of their scenes and of their updates.
+    const SHOWN: [&str; 7] = [
+        "part 0 read 48 fields 20/part 1 read 7 fields 7/part 2 refused 3 at 3/part 3 refused 7 at 9/\
+         part 4 refused 8 at 13/part 5 refused 9 at 13/part 6 refused 39 at 7/deepest 0/",
+        "part 0 refused 3 at 0/",
+        "part 0 refused 6 at 6/",
+        "part 0 refused 7 at 9/",
+        "part 0 refused 8 at 30/",
+        "part 0 refused 9 at 30/",
+        "part 0 refused 39 at 6/",
+    ];
+
     #[test]
     fn shows() {
-        let mut table = counted(&[
-            (5, "show read 0 0 23 - 0 - part 0 read 6 fields 1/"),
+        let shown = SHOWN.map(|text| format!("show read 0 0 {} - 0 - {text}", text.len()));
+        let files = [
             (4, "show refused 23 0 16 - 0 - file refused 23/"),
             (5, "show refused 24 0 16 - 0 - file refused 24/"),
-        ]);
+        ];
+        let shown = shown.iter().map(|line| (5, line.as_str()));
+        let mut table = counted(&shown.chain(files).collect::<Vec<_>>());
         assert_eq!(table.rare(), ["show 23"]);
         assert!(!table.is_sound());
         let line = "show refused 23 0 16 - 0 - file refused 23/";
@@ -197,6 +231,19 @@ mod tests {
         assert!(!table.is_sound());
     }
 
+    /// A number that only some parts of shows reach is missed.
+    #[test]
+    fn rare_parts_of_shows() {
+        let shown = |line: &str| format!("show read 0 0 0 - 0 - {line}");
+        let mut table = Table::default();
+        for _ in 0..5 {
+            for line in &SHOWN[..6] {
+                table.count_line(&shown(line)).expect("an answer");
+            }
+        }
+        assert_eq!(table.rare(), ["show 23", "show 24", "show scene 39"]);
+    }
+
     /// Of a list each packet counts, by its answer as by its line.
     #[test]
     fn lists() {
@@ -205,12 +252,49 @@ mod tests {
         let mut table = Table::default();
         table.count(&answer).expect("an answer");
         for table in [table, counted(&[(1, &answer.to_string())])] {
-            let packets = |number| [table.row(number)[8], table.row(number)[9]];
+            let packets = |number| [table.row(number)[10], table.row(number)[11]];
             assert_eq!(
                 [packets(0), packets(3), packets(9)],
                 [[1, 1], [0, 1], [0, 1]]
             );
-            assert_eq!(table.sums(), [0, 0, 0, 0, 0, 0, 0, 0, 1, 3, 0]);
+            assert_eq!(table.sums(), [0, 0, 0, 0, 0, 0, 0, 0, 0, 0, 1, 3, 0]);
+        }
+    }
+
+    /// Of a show each part that was asked counts, and the file itself.
+    #[test]
+    fn parts_of_shows() {
+        let header = "000400000012000000180000001a0000001b";
+        for (file, files, scenes, updates) in [
+            (
+                [header, "0a0080800080c10070c100"],
+                [1, 0],
+                [1, 0, 0],
+                [2, 1, 0],
+            ),
+            (
+                [header, "0a0080800080c10071c100"],
+                [1, 0],
+                [1, 0, 0],
+                [0, 2, 1],
+            ),
+            (
+                ["00020000000a0000000b", "0100"],
+                [1, 0],
+                [0, 0, 1],
+                [0, 0, 0],
+            ),
+            ([header, ""], [0, 1], [0, 0, 0], [0, 0, 0]),
+        ] {
+            let show = Request::parse(&format!("show {}", file.concat())).expect("a request");
+            let answer = answer(&show);
+            let mut table = Table::default();
+            table.count(&answer).expect("an answer");
+            for table in [table, counted(&[(1, &answer.to_string())])] {
+                let column = |column: usize| [0, 9, 39].map(|number| table.row(number)[column]);
+                assert_eq!([table.row(0)[7], table.row(24)[7]], files, "{show}");
+                assert_eq!([column(8), column(9)], [scenes, updates], "{show}");
+            }
         }
     }
 

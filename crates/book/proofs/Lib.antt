@@ -1,4 +1,5 @@
 pub mod Steps
 pub mod Shapes
+pub mod Settled
 pub mod Book
 pub mod Calls

@@ -1,5 +1,5 @@
 -- The book of demand 3. It is fed the arguments of calls, and nothing that the program keeps; its state is a list of shapes.
-use Rattle.std.specs.Prelude.{ℕ, ◌*◌, ◌≡◌, List, [], Bool, length, take}
+use Rattle.std.specs.Prelude.{ℕ, ◌*◌, ◌≡◌, List, [], Bool, true, length, take}
 use Rattle.rules.specs.Rule.{pick}
 use Rattle.rules.specs.Reading.{Reading, Input, read, is_read}
 use Rattle.rules.specs.Words.{encoded}
@@ -11,6 +11,7 @@ use Rattle.validation.specs.Validation.{parents, graph_answer}
 use Rattle.scene.specs.Scene.{scene_fields, scene_reading}
 use Rattle.update.specs.Update.{update_fields, shapes_question, update_reading}
 use Rattle.book.specs.Step.{After, Step, book_told, book_state}
+use Rattle.book.specs.Spare.{spare, too_much_follows, part_reading, part_graph}
 
 -- a call's arguments: bytes, offset, recording or not, how many words its field buffer has
 pub record Packet : Type 0 where
@@ -59,16 +60,47 @@ scene_step p s = step_of p.recording (book_scene p) s
 unfoldable pub update_step : Step Packet (List PositionSyntax) Given
 update_step p s = step_of p.recording (book_reading p s) s
 
+-- Where a call is made. In the library it counts by its own answer. The show asks question 39 after it, and if that is not met, it
+-- goes on with the shapes from before.
+pub data Setting : Type 0 where
+  library : Setting
+  show : Setting
+
+-- what a call comes to, which found the shapes s
+unfoldable pub settled : Setting → Packet → List PositionSyntax → After (List PositionSyntax) Given →
+    After (List PositionSyntax) Given
+settled library p s a = a
+settled show p s a = record {
+  told = record { graph = part_graph p.bytes a.told.graph; words = a.told.words };
+  left = pick (too_much_follows p.bytes a.told.graph.answer) s a.left;
+}
+
+-- a step, and then what it comes to
+abbrev pub step_in : Setting → Step Packet (List PositionSyntax) Given → Step Packet (List PositionSyntax) Given
+step_in x step p s = settled x p s (step p s)
+
+-- an accepted call of the show meets question 39
+abbrev pub Meets : Setting → Packet → Given → Type 0
+Meets library p g = Unit {0}
+Meets show p g = is_accepted g ≡ true → spare p.bytes g.graph.answer.position ≡ true
+
+-- A scene and a packet as parts of a show: their readings, and then question 39.
+abbrev pub scene_part : Packet → Reading (List PositionSyntax)
+scene_part p = part_reading p.bytes (book_scene p)
+
+abbrev pub update_part : Packet → List PositionSyntax → Reading (List PositionSyntax)
+update_part p s = part_reading p.bytes (book_reading p s)
+
 -- the book's first list, the shapes of positions 1 to the scene's count: none unless it was accepted
-abbrev pub book_first : Packet → List PositionSyntax
-book_first p = (scene_step p []).left
+abbrev pub book_first : Setting → Packet → List PositionSyntax
+book_first x p = (step_in x scene_step p []).left
 
 -- the book's answers to packets, one after another, and its shapes after them
-abbrev pub book_answers : List Packet → List PositionSyntax → List Given
-book_answers = book_told update_step
+abbrev pub book_answers : Setting → List Packet → List PositionSyntax → List Given
+book_answers x = book_told (step_in x update_step)
 
-abbrev pub book_shapes : List Packet → List PositionSyntax → List PositionSyntax
-book_shapes = book_state update_step
+abbrev pub book_shapes : Setting → List Packet → List PositionSyntax → List PositionSyntax
+book_shapes x = book_state (step_in x update_step)
 
 -- every position has a rank
 abbrev pub Ranked : List PositionSyntax → Type 0

@@ -22,7 +22,8 @@ use lib.Seq.{length-take-le, take-append_seam}
 use Rattle.position.specs.declared.PositionSyntax.{PositionSyntax}
 use Rattle.position.specs.Shape.{default}
 use Rattle.position.proofs.PositionSyntax.TheLaws as shape
-use Rattle.book.specs.Book.{Packet}
+use Rattle.book.specs.Book.{Packet, Setting}
+use Rattle.book.proofs.Settled.{by_setting}
 use Rattle.book.proofs.Book.{first_many}
 use Rattle.owner.specs.Cells.{Cells, refilled, at_block, Slice}
 use Rattle.owner.specs.Machine.{Writes, nothing}
@@ -35,7 +36,7 @@ use Rattle.runs.proofs.Sent.{all_shapes}
 use Rattle.runs.proofs.Scene.{scene_reads}
 use Rattle.runs.proofs.Update.{updates}
 use Rattle.claims.proofs.Calls.{accepted_by_step}
-use Rattle.claims.specs.Calls.{HasCode, Call, packet_sent, Accepted, Next, Run, call_of, shapes_left, none, call, Wanted, packet_wanted, Possible, AllPossible, SentAll}
+use Rattle.claims.specs.Calls.{HasCode, Call, packet_sent, update_gave, Accepted, Next, Run, call_of, shapes_left, none, call, Wanted, packet_wanted, Possible, AllPossible, SentAll}
 
 -- shapes that fit: some of them, and more
 fit_take : (n : ℕ) (ss : List PositionSyntax) → AllFit ss → AllFit (take n ss)
@@ -157,15 +158,16 @@ module _ (w : World) (γ : Env) where
         })
 
   -- a call that is wanted can be made, and leaves its owner ready for the next
-  record Makes (q : Wanted Form) (σ : Memory) (s : List PositionSyntax) : Type 2 where
+  record Makes (x : Setting) (q : Wanted Form) (σ : Memory) (s : List PositionSyntax) : Type 2 where
     next : Next w γ σ s
     packet_is : packet_sent next.sent ≡ packet_wanted q
     form_is : next.form ≡ q.form
-    then : (run : Run w γ next) → ∥ Ready run.memory (shapes_left w γ next run) ∥₁
+    then : (run : Run w γ next) → ∥ Ready run.memory (shapes_left w γ x next run) ∥₁
 
-  makes : (q : Wanted Form) {σ : Memory} {s : List PositionSyntax} (r : Ready σ s) → Put q r.memory (Shapes w (held r) ∗ r.beside) →
-      (f : Form) → f ≡ q.form → Makes q σ s
-  makes q {σ} {s} r g by_value e = record {
+  -- Where question 39 is not met, the shapes from before are stored.
+  makes : (x : Setting) (q : Wanted Form) {σ : Memory} {s : List PositionSyntax} (r : Ready σ s) → Put q r.memory (Shapes w (held r) ∗ r.beside) →
+      (f : Form) → f ≡ q.form → Makes x q σ s
+  makes x q {σ} {s} r g by_value e = record {
     next = record {
       form = by_value;
       sent = g.sent;
@@ -188,9 +190,12 @@ module _ (w : World) (γ : Env) where
     then = λ run.
         let many = length-take-le (length s) run.shapes (omega (arith, run.shapes_many, array_full s r.few, r.few)) in
         let fit = fit_take (length s) run.shapes run.shapes_fit in
-        ready_stored g.sent run.words (held r) run.memory r.beside run.holds (take (length s) run.shapes) many fit r.few;
+        let stored = ready_stored g.sent run.words (held r) run.memory r.beside run.holds in
+        by_setting (packet_sent g.sent) s (update_gave w γ run) (λ b. ∥ Ready run.memory b.left ∥₁) x
+        (stored (take (length s) run.shapes) many fit r.few)
+        (λ _. stored s refl r.fit r.few);
   }
-  makes q {σ} {s} r g (lent v) e = record {
+  makes x q {σ} {s} r g (lent v) e = record {
     next = record {
       form = lent v;
       sent = g.sent;
@@ -208,20 +213,23 @@ module _ (w : World) (γ : Env) where
     form_is = e;
     then = λ run.
         let few : length run.shapes ≤ 63 = omega (arith, run.shapes_many, r.few) in
-        ∣ ready_there g.sent run.words (refilled (held r) run.shapes) run.memory r.beside run.holds run.shapes_fit few ∣₁;
+        let cells = refilled (held r) run.shapes in
+        by_setting (packet_sent g.sent) s (update_gave w γ run) (λ b. ∥ Ready run.memory b.left ∥₁) x
+        ∣ ready_there g.sent run.words cells run.memory r.beside run.holds run.shapes_fit few ∣₁
+        (λ _. ready_stored g.sent run.words cells run.memory r.beside run.holds s (sym run.shapes_many) r.fit few);
   }
 
   -- so can all the calls of a list
-  sends : HasCode γ → (qs : List (Wanted Form)) → AllPossible qs → {σ : Memory} {s : List PositionSyntax} → Ready σ s → ∥ SentAll w γ qs σ s ∥₁
-  sends has [] ok {σ} {s} r = ∣ record { calls = []; memory = σ; shapes = s; through = none; packets_are = refl; forms_are = refl } ∣₁
-  sends has (q ∷ qs) ok {σ} {s} r =
+  sends : (x : Setting) → HasCode γ → (qs : List (Wanted Form)) → AllPossible qs → {σ : Memory} {s : List PositionSyntax} → Ready σ s → ∥ SentAll w γ x qs σ s ∥₁
+  sends x has [] ok {σ} {s} r = ∣ record { calls = []; memory = σ; shapes = s; through = none; packets_are = refl; forms_are = refl } ∣₁
+  sends x has (q ∷ qs) ok {σ} {s} r =
       ∥∥₁_elim (puts q ok.0 r.memory (Shapes w (held r) ∗ r.beside) r.has) ∥∥₁_prop (λ g.
-      let m = makes q r g q.form refl in
+      let m = makes x q r g q.form refl in
       let k = m.next in
       ∥∥₁_elim (updates w γ k.form (has.updates k.form) k.sent k.sent_fits k.handed k.handed_fits k.memory k.beside k.has) ∥∥₁_prop (λ run.
       ∥∥₁_elim (m.then run) ∥∥₁_prop (λ next.
-      ∥∥₁_map (sends has qs ok.1 next) (λ rest. record {
-        calls = call_of w γ k run ∷ rest.calls;
+      ∥∥₁_map (sends x has qs ok.1 next) (λ rest. record {
+        calls = call_of w γ x k run ∷ rest.calls;
         memory = rest.memory;
         shapes = rest.shapes;
         through = call k run rest.through;
@@ -230,8 +238,8 @@ module _ (w : World) (γ : Env) where
       }))))
 
   -- the declared shapes of an accepted scene are put into cells of the memory that it left
-  ready : (scene : Call) (s : List PositionSyntax) (σ : Memory) → Accepted w γ scene s σ → ∥ Ready σ s ∥₁
-  ready scene s σ a =
+  ready : (x : Setting) (scene : Call) (s : List PositionSyntax) (σ : Memory) → Accepted w γ x scene s σ → ∥ Ready σ s ∥₁
+  ready x scene s σ a =
       let run = a.run in
       let fit : AllFit s = rw a.declared (fit_take run.answer.count run.answer.shapes run.shapes_fit) in
       let rest = SentInCells w a.sent run.words a.beside in
@@ -243,12 +251,12 @@ module _ (w : World) (γ : Env) where
         beside = rest;
         has = t.2;
         fit = fit;
-        few = rw (accepted_by_step w γ scene s σ a).leaves (first_many scene.fed);
+        few = rw (accepted_by_step w γ x scene s σ a).leaves (first_many x scene.fed);
       })
 
-  pub any_list : HasCode γ → (scene : Call) (s : List PositionSyntax) (σ : Memory) → Accepted w γ scene s σ →
-      (qs : List (Wanted Form)) → AllPossible qs → ∥ SentAll w γ qs σ s ∥₁
-  any_list has scene s σ a qs ok = ∥∥₁_elim (ready scene s σ a) ∥∥₁_prop (sends has qs ok)
+  pub any_list : (x : Setting) → HasCode γ → (scene : Call) (s : List PositionSyntax) (σ : Memory) → Accepted w γ x scene s σ →
+      (qs : List (Wanted Form)) → AllPossible qs → ∥ SentAll w γ x qs σ s ∥₁
+  any_list x has scene s σ a qs ok = ∥∥₁_elim (ready x scene s σ a) ∥∥₁_prop (sends x has qs ok)
 
   -- a scene is read from a memory that has nothing else
   pub any_scene : HasCode γ → (q : Wanted Variant) → Possible q →

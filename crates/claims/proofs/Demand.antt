@@ -24,14 +24,14 @@ demand3 w γ has = record {
       one_end (scene_routine γ x) (passed p []) σ v (scene_value x run.answer) ρ run.memory ends run.ran;
   one_call = λ f p h σ F run v ρ ends.
       one_end (update_routine γ f) (passed p (handed_values f h)) σ v (update_value f run.answer run.shapes) ρ run.memory ends run.ran;
-  every_list = makes w γ has;
+  every_list = λ x. makes w γ x has;
   any_scene = any_scene w γ has;
-  any_list = any_list w γ has;
+  any_list = λ x. any_list w γ x has;
   loaded = λ τ low q c σ F has. loads w σ q τ c.block F c.offset (map low c.held) has;
-  lists = λ scene s t σ ρ cs a r. list_claim w γ scene s t σ cs a (through_ran w γ r);
-  counts = λ scene s σ a.
+  lists = λ x scene s t σ ρ cs a r. list_claim w γ x scene s t σ cs a (through_ran w γ x r);
+  counts = λ x scene s σ a.
       let scene_answered = a.run.answered in
       scene_answered.count ∙ ap length (sym scene_answered.answered.answered.value) ∙ ap length (sym a.declared);
-  scene_refusals = λ f p σ F run. scene_for_parents _ _ _ _ run.answered;
-  packet_refusals = λ f p h σ F run. packet_for_parents _ p.offset _ _ (used f h (all_of f h)) (count_of f h) run.answered;
+  scene_refusals = λ x v p σ F run. scene_for_parents x _ p.offset _ _ run.answered;
+  packet_refusals = λ x f p h σ F run. packet_for_parents x _ p.offset _ _ (used f h (all_of f h)) (count_of f h) run.answered;
 }

@@ -38,11 +38,13 @@ use Rattle.exported.specs.declared.GatewayGraphAnswer.{GatewayGraphAnswer}
 use Rattle.gateway.specs.declared.GatewayScene.{GatewayScene}
 use Rattle.exported.specs.Exported.{gateway_answer, exported_graph, Exported}
 use Rattle.gateway.specs.Exported.{SceneExported, NameExported, ParentsExported}
+use Rattle.laws.proofs.Stays.{entry_place}
 use Rattle.known_names.specs.Known.{Explained}
 use Rattle.known_names.proofs.Update.{update_known}
 use Rattle.known_names.proofs.Explained.{explained, scene_explained, update_explained, position_explained, metadata_explained}
-use Rattle.book.specs.Book.{packet_of, is_accepted, book_scene, book_reading, scene_step}
-use Rattle.book.proofs.Book.{first_many, scene_counts}
+use Rattle.book.specs.Spare.{too_much_follows, part_reading}
+use Rattle.book.specs.Book.{packet_of, is_accepted, book_scene, book_reading, scene_step, library, show, settled, step_in}
+use Rattle.book.proofs.Book.{first_many, scene_place, update_place}
 use Rattle.book.proofs.Shapes.{scene_ranked, update_ranked}
 use Rattle.show_header.specs.Header.{part_count, part_of, file_question}
 use Rattle.show_parts.specs.Parts.{packet}
@@ -50,15 +52,15 @@ use Rattle.part_fields.specs.declared.NotRead.{NotRead}
 use Rattle.part_fields.specs.Part.{Listed, listed, shapes_before, part_from, update_listed, sound_listed, part_listed, PartAnswered}
 use Rattle.listing_claims.proofs.Printed.{part_explained}
 use Rattle.demand_1.specs.Demand.{KeptFrom, Kept, SceneKept, UpdateKept, Validated, NameKept, PacketKept, LentKept, Said, SaidOfGraph, AnswerCrossed, GraphCrossed, PartKept, Demand1}
-use Rattle.demand_1.proofs.Kept.{entry_place, reading_kept, call_kept}
+use Rattle.demand_1.proofs.Kept.{reading_kept, call_kept}
 use Rattle.demand_1.proofs.Texts.{name_kept, show_kept}
 use Rattle.demand_1.proofs.Packets.{parents_kept}
 
 module _ (bs : List ℕ) (offset : ℕ) (rec : Bool) (ws : List ℕ) {vs : List ℕ} where
   module _ {r : SceneAnswer} (m : SceneAnswered (scene_reading (input_of bs rec ws) offset) rec ws r vs) where
     few : r.count ≤ 63
-    unfolding book_scene
-    few = rw (scene_counts (packet_of bs offset rec ws) m) (first_many (packet_of bs offset rec ws))
+    unfolding settled scene_step book_scene
+    few = rw m.count (first_many library (packet_of bs offset rec ws))
 
     scene_beyond : KeptFrom r.count defaults r.shapes
     scene_beyond = m.others ∙ sym (defaults_rest r.count few)
@@ -72,7 +74,7 @@ module _ (bs : List ℕ) (offset : ℕ) (rec : Bool) (ws : List ℕ) {vs : List 
 
     scene_kept : SaidOfGraph (SceneKept bs rec ws r.count r.shapes vs) r.graph
     scene_kept = record {
-      kept = reading_kept _ _ (entry_place bs rec ws _ offset _) (scene_explained _ offset) m.answered.answered (λ h _. none h);
+      kept = reading_kept _ _ (entry_place (input_of bs rec ws) _ offset _) (scene_explained _ offset) m.answered.answered (λ h _. none h);
       beyond = scene_beyond;
       largest = answer_tells m.answered (scene_ranked (input_of bs rec ws) offset);
     }
@@ -89,7 +91,7 @@ module _ (bs : List ℕ) (offset : ℕ) (rec : Bool) (ws : List ℕ) {vs : List 
 
     update_kept : SaidOfGraph (UpdateKept bs rec ws count shapes r.shapes vs) r.graph
     update_kept = record {
-      kept = reading_kept shapes r.shapes (entry_place bs rec ws _ offset _) (update_explained _ offset count shapes) m.answered.answered (λ _ e. all_came e);
+      kept = reading_kept shapes r.shapes (entry_place (input_of bs rec ws) _ offset _) (update_explained _ offset count shapes) m.answered.answered (λ _ e. all_came e);
       beyond = m.others;
       largest = answer_tells m.answered (update_ranked (input_of bs rec ws) offset count (take count shapes));
     }
@@ -171,20 +173,32 @@ module _ (file : List ℕ) (k offset : ℕ) (ws : List ℕ) where
       let m : Answered x [] true ws (answer_of x) (value_or [] x.result) (recorded true ws 0 x.fields) = record { answer = refl; value = refl; words = refl } in
       reading_kept tt tt place (number (answer_of x) refl) m (λ _ _. refl)
 
+  -- what a reading of the part comes to ends where the reading did
+  part_listed_kept : (x : Reading (List PositionSyntax)) → x.position ≤ 8 * length (part_of file k) →
+      PartSaid (listed (part_reading (part_of file k) x))
+  unfolding part_reading
+  part_listed_kept x place =
+      let bs = part_of file k in
+      listed_kept (part_reading bs x)
+      (by_pick (λ y. y.position ≤ 8 * length bs) (too_much_follows bs (answer_of x)) _ x (λ _. place) (λ _. place))
+
   update_said : PartSaid (update_listed file k (part_from file k offset ws))
-  unfolding update_listed book_reading
+  unfolding update_listed
   update_said =
-      by_pick PartSaid (is_accepted (scene_step (packet file 0) []).told) _ _
-      (λ _. listed_kept (book_reading (part_from file k offset ws) (shapes_before file k)) (entry_place (part_of file k) true ws _ offset _))
+      let p = part_from file k offset ws in
+      let s = shapes_before file k in
+      by_pick PartSaid (is_accepted (step_in show scene_step (packet file 0) []).told) _ _
+      (λ _. part_listed_kept (book_reading p s) (update_place p s))
       (λ _ _. recorded_none true ws 0)
 
   part_said : PartSaid (part_listed file k (part_from file k offset ws))
-  unfolding part_listed sound_listed book_scene
+  unfolding part_listed sound_listed
   part_said =
+      let p = part_from file k offset ws in
       by_pick PartSaid (eqb (file_question file) 0) _ _
       (λ _.
       by_pick PartSaid (ltb k (part_count file)) _ _
-      (λ _. by_pick PartSaid (eqb k 0) _ _ (λ _. listed_kept (book_scene (part_from file k offset ws)) (entry_place (part_of file k) true ws _ offset _)) (λ _. update_said))
+      (λ _. by_pick PartSaid (eqb k 0) _ _ (λ _. part_listed_kept (book_scene p) (scene_place p)) (λ _. update_said))
       (λ _ _. recorded_none true ws 0))
       (λ _. listed_kept (ended_at (refused (file_question file)) 0 0) (omega arith))
 

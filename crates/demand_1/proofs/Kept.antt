@@ -10,12 +10,12 @@ use Rattle.rules.specs.declared.Field.{Field}
 use Rattle.rules.specs.Rule.{Rule}
 use Rattle.rules.specs.Reading.{Reading, is_read}
 use Rattle.rules.specs.Words.{encoded, recorded}
-use Rattle.rules.specs.Answer.{answer_of, input_of, entry_then, entry_reading, Answered}
+use Rattle.rules.specs.Answer.{answer_of, input_of, entry_reading, Answered}
 use Rattle.rules.proofs.Words.{encoded_length, recorded_length}
 use Rattle.rules.proofs.Answers.{value_unread}
 use Rattle.text.specs.Text.{Put}
 use Rattle.text.proofs.Puts.{put_after}
-use Rattle.laws.proofs.Stays.{stays}
+use Rattle.laws.proofs.Stays.{entry_place}
 use Rattle.known_names.specs.Known.{Explained}
 use Rattle.demand_1.specs.Demand.{KeptFrom, Kept, Said}
 
@@ -30,13 +30,6 @@ words_rest false ws fs = refl
 pub words_off : (rec : Bool) (ws : List ℕ) (fs : List Field) → rec ≡ false → recorded rec ws 0 fs ≡ ws
 unfolding recorded
 words_off rec ws fs e = rw e
-
--- the position of a call
-pub entry_place : {A : Type 0} (bs : List ℕ) (rec : Bool) (ws : List ℕ) (own offset : ℕ) (r : Rule A) →
-    (entry_reading (input_of bs rec ws) own offset r).position ≤ 8 * length bs
-entry_place bs rec ws own offset r =
-    let s = stays (input_of bs rec ws) (entry_then (length bs) own offset r) 0 0 0 (omega arith) (omega arith) in
-    omega (arith, s.window, s.bytes)
 
 -- a reading at a bit of the bytes, whose number has a meaning, and what stands for its value where it was not read
 pub reading_kept : {A B : Type 0} {x : Reading A} {bs : List ℕ} {rec : Bool} {ws : List ℕ} {a v : A} {r : Answer} {vs : List ℕ} (came left : B) →
@@ -57,4 +50,4 @@ reading_kept {x = x} {rec = rec} {ws = ws} {a = a} came left place number m unre
 pub call_kept : {A : Type 0} (bs : List ℕ) (rec : Bool) (ws : List ℕ) (own offset : ℕ) (rule : Rule A) {a v : A} {r : Answer} {vs : List ℕ} →
     Explained (answer_of (entry_reading (input_of bs rec ws) own offset rule)).outcome →
     Answered (entry_reading (input_of bs rec ws) own offset rule) a rec ws r v vs → Said (Kept bs rec ws a v vs) r
-call_kept bs rec ws own offset rule {a} {v} number m = reading_kept a v (entry_place bs rec ws own offset rule) number m (λ _ e. e)
+call_kept bs rec ws own offset rule {a} {v} number m = reading_kept a v (entry_place (input_of bs rec ws) own offset rule) number m (λ _ e. e)

@@ -1,5 +1,5 @@
--- Document 01's worked examples as rows, with the listings of its show in docs/SCENE-FIELDS.md, and the one claim that all of
--- them hold of the definitions.
+-- Document 01's worked examples as rows, with the listings of its show in docs/SCENE-FIELDS.md and a show that has two packets in
+-- one part, and the one claim that all of them hold of the definitions.
 use Rattle.std.specs.Prelude.{ℕ, ◌*◌, ◌/◌, ◌%◌, ◌^◌, ◌≡◌, List, [], ◌∷◌, ◌++◌, map, false, length, take, replicate}
 use Prim.Native.String.{String}
 use Rattle.rules.specs.declared.Outcome.{Outcome}
@@ -12,7 +12,7 @@ use Rattle.validation.specs.Validation.{parents}
 use Rattle.probability.specs.Probability.{floats}
 use Rattle.metadata.specs.Entry.{metadata_reading}
 use Rattle.text.specs.Text.{ascii}
-use Rattle.book.specs.Book.{Packet, packet_of, input, book_scene, book_first, book_reading, book_shapes}
+use Rattle.book.specs.Book.{Packet, packet_of, input, book_scene, library, book_first, book_reading, book_shapes}
 use Rattle.show_header.specs.Header.{file_question}
 use Rattle.show_parts.specs.Parts.{packet}
 use Rattle.show.specs.Show.{show_text, file_outcome}
@@ -69,7 +69,7 @@ abbrev pub given : Example → Row
 given (escaped_in bs widths) = row (escaped_in bs widths) (whole bs (escaped 0 widths)) (λ v. v ∷ []) 0
 given (scene_in bs) = row (scene_in bs) (book_scene (packet_in bs)) parents []
 given (packet_after scene before bs) =
-    let shapes = book_shapes (map packet_in before) (book_first (packet_in scene)) in
+    let shapes = book_shapes library (map packet_in before) (book_first library (packet_in scene)) in
     row (packet_after scene before bs) (book_reading (packet_in bs) shapes) parents shapes
 given (show_in file) = record { example = show_in file; outcome = file_outcome (file_question file); position = 0; fields = 0; values = show_text file }
 given (part_in file k) =
@@ -99,6 +99,13 @@ abbrev pub show : List ℕ
 show =
     0x00 ∷ 0x04 ∷ 0x00 ∷ 0x00 ∷ 0x00 ∷ 0x12 ∷ 0x00 ∷ 0x00 ∷ 0x00 ∷ 0x18 ∷ 0x00 ∷ 0x00 ∷ 0x00 ∷ 0x1A ∷ 0x00 ∷ 0x00 ∷ 0x00 ∷ 0x1B
     ∷ (part0 ++ (part1 ++ (part2 ++ part3)))
+
+-- the same parts, with a second packet behind the one of part 2
+abbrev pub two_in_one : List ℕ
+two_in_one =
+    0x00 ∷ 0x04 ∷ 0x00 ∷ 0x00 ∷ 0x00 ∷ 0x12 ∷ 0x00 ∷ 0x00 ∷ 0x00 ∷ 0x18
+    ∷ 0x00 ∷ 0x00 ∷ 0x00 ∷ 0x1A ∷ 0x00 ∷ 0x00 ∷ 0x00 ∷ 0x1D
+    ∷ (part0 ++ (part1 ++ ((part2 ++ part3) ++ part3)))
 
 -- the ASCII codes of lines
 abbrev pub lines : List String → List ℕ
@@ -166,6 +173,41 @@ rows =
           ∷ "1 1 1 ancillary.scene_graph.positions[0].parent_update"
           ∷ "2 1 0 ancillary.scene_graph.positions[0].absolute_parent"
           ∷ "refused 3 at 3: the bits asked for are not there"
+          ∷ []);
+    } ∷
+    -- two packets in its third part: 17 bits follow the first, so the shapes are those from before it, and its fourth part closes a
+    -- circle too; and the third part, listed
+    record {
+      example = show_in two_in_one;
+      outcome = Read;
+      position = 0;
+      fields = 0;
+      values =
+          lines
+          ("part 0 read 48 fields 20"
+          ∷ "part 1 refused 9 at 13"
+          ∷ "part 2 refused 39 at 7"
+          ∷ "part 3 refused 9 at 13"
+          ∷ "position 1 parent 0 rank 1"
+          ∷ "position 2 parent 1 rank 2"
+          ∷ "deepest 2"
+          ∷ []);
+    } ∷
+    record {
+      example = part_in two_in_one 2;
+      outcome = Read;
+      position = 0;
+      fields = 0;
+      values =
+          lines
+          ("0 1 0 ancillary.scene_graph.positions[0].updated"
+          ∷ "1 1 1 ancillary.scene_graph.positions[1].updated"
+          ∷ "2 1 1 ancillary.scene_graph.positions[1].parent_update"
+          ∷ "3 1 1 ancillary.scene_graph.positions[1].absolute_parent"
+          ∷ "4 1 0 ancillary.scene_graph.positions[1].position_present"
+          ∷ "5 1 0 ancillary.scene_graph.positions[1].rotation_present"
+          ∷ "6 1 0 ancillary.scene_graph.positions[1].extensions_present"
+          ∷ "refused 39 at 7: eight or more bits follow, or one of them is 1"
           ∷ []);
     } ∷
     -- a file of no bytes

@@ -9,6 +9,7 @@ use lib.Dec.{ltb, leb}
 use Rattle.bits.specs.Bits.{bits_at}
 use Rattle.rules.specs.Rule.{Rule, done, ends, position_then, end_then, bits_then, skip_then, field_then, set_end_then}
 use Rattle.rules.specs.Reading.{Reading, Input, reading, has_room, inside}
+use Rattle.rules.specs.Answer.{entry_then, entry_reading}
 use Rattle.laws.specs.Stays.{Stays}
 use Rattle.rules.proofs.Pick.{by_pick}
 use Rattle.rules.proofs.Forward.{forward}
@@ -46,3 +47,9 @@ within i (set_end_then x k) p e n h g =
 
 pub stays : {A : Type 0} (i : Input) (r : Rule A) (p e n : ℕ) → p ≤ e → e ≤ 8 * length i.bytes → Stays i p (reading i r p e n)
 stays i r p e n h g = let w = within i r p e n h g in record { forward = forward i r p e n; window = w.window; bytes = w.bytes }
+
+-- so a whole call ends at a bit of the bytes
+pub entry_place : {A : Type 0} (i : Input) (own offset : ℕ) (r : Rule A) → (entry_reading i own offset r).position ≤ 8 * length i.bytes
+entry_place i own offset r =
+    let s = stays i (entry_then (length i.bytes) own offset r) 0 0 0 (omega arith) (omega arith) in
+    omega (arith, s.window, s.bytes)

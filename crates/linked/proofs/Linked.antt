@@ -274,7 +274,9 @@ linked =
     let show_header_show_file_new = in_show_header.show_file_new W refl show_header_below in
     let show_header_show_file_part = in_show_header.show_file_part W refl show_header_below in
     let show_header_show_file_part_count = in_show_header.show_file_part_count W refl show_header_below in
-    let show_parts_below = lent_graph_update & scene_read_scene & show_header_show_file_part & tt in
+    let show_parts_below =
+    bits_read & position_syntax_default & rules_outcome_is_read & rules_outcome_from_reason & scene_read_scene &
+    show_header_show_file_part & update_undecided_read_update & tt in
     let show_parts_scene_part = in_show_parts.scene_part W refl show_parts_below in
     let show_parts_show_scene = in_show_parts.show_scene W refl show_parts_below in
     let show_parts_show_update = in_show_parts.show_update W refl show_parts_below in

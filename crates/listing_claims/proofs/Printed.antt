@@ -14,7 +14,7 @@ use Rattle.rules.specs.declared.Outcome.{Outcome}
 use Rattle.rules.specs.declared.Outcome.TheVariants.{Read}
 use Rattle.rules.specs.Rule.{Rule, refused}
 use Rattle.rules.specs.Reading.{Reading, ended_at}
-use Rattle.rules.specs.Answer.{input_of, entry_reading, Answered}
+use Rattle.rules.specs.Answer.{answer_of, input_of, entry_reading, Answered}
 use Rattle.rules.proofs.Pick.{by_pick}
 use Rattle.rules.proofs.Laws.{never}
 use Rattle.position.specs.declared.PositionSyntax.{PositionSyntax}
@@ -26,7 +26,9 @@ use Rattle.numbers.proofs.Distinct.{has_words}
 use Rattle.laws.specs.Named.{Numbered, AllNamed}
 use Rattle.laws.proofs.Free.{enough}
 use Rattle.laws.proofs.Front.{entry_fits}
-use Rattle.book.specs.Book.{Packet, is_accepted, book_scene, book_reading, scene_step}
+use Rattle.book.specs.Spare.{too_much_follows, part_reading}
+use Rattle.book.specs.Book.{Packet, is_accepted, scene_step, show, step_in, scene_part, update_part}
+use Rattle.book.proofs.Settled.{part_fields}
 use Rattle.book.proofs.Book.{scene_is, update_is}
 use Rattle.show_header.specs.Header.{part_count, part_of, is_sound, file_question}
 use Rattle.show_parts.specs.Parts.{packet}
@@ -81,6 +83,12 @@ file_words file =
     (λ _. by_pick (λ n. eqb n 0 ≡ false → HasWords n) (is_sound file) 0 24 (λ _ e. never refl e) (λ _ _. has_words 24 refl))
     (λ _ _. has_words 23 refl)
 
+-- what a reading of a part comes to has the same fields, and 39 has words
+part_known : (bs : List ℕ) (x : Reading (List PositionSyntax)) → AllKnown x → AllKnown (part_reading bs x)
+unfolding part_reading
+part_known bs x known =
+    by_pick AllKnown (too_much_follows bs (answer_of x)) _ x (λ _. record { fields = known.fields; outcome = has_words 39 refl }) (λ _. known)
+
 module _ (file : List ℕ) (k offset : ℕ) (ws : List ℕ) where
   abbrev pub asked : Packet
   asked = part_from file k offset ws
@@ -93,21 +101,28 @@ module _ (file : List ℕ) (k offset : ℕ) (ws : List ℕ) where
   unfolding fields_of outcome_in AllNamed
   unread a = record { counted = λ answer e. ap fields_of e; known = tt; room = omega arith; numbered = tt }
 
-  whole_entry : (own : ℕ) (r : Rule (List PositionSyntax)) → AllKnown (entry_reading (input_of (part_of file k) true ws) own offset r) →
-      Whole ws (listed (entry_reading (input_of (part_of file k) true ws) own offset r))
-  whole_entry own r known = whole (entry_reading (input_of (part_of file k) true ws) own offset r) known (entry_fits (part_of file k) ws own offset r)
+  -- so it is of what a reading of the part comes to
+  part_reading_whole : (x : Reading (List PositionSyntax)) → AllKnown x → 5 * length x.fields ≤ length ws →
+      Whole ws (listed (part_reading (part_of file k) x))
+  part_reading_whole x known room =
+      let bs = part_of file k in
+      whole (part_reading bs x) (part_known bs x known) (rw (part_fields bs x) room)
 
-  -- of what the book reads
-  scene_whole : Whole ws (listed (book_scene asked))
+  whole_entry : (own : ℕ) (r : Rule (List PositionSyntax)) → AllKnown (entry_reading (input_of (part_of file k) true ws) own offset r) →
+      Whole ws (listed (part_reading (part_of file k) (entry_reading (input_of (part_of file k) true ws) own offset r)))
+  whole_entry own r known = part_reading_whole _ known (entry_fits (part_of file k) ws own offset r)
+
+  -- of what the show reads
+  scene_whole : Whole ws (listed (scene_part asked))
   scene_whole = rw (← scene_is (part_of file k) offset true ws) (whole_entry _ _ (scene_known _ offset))
 
-  packet_whole : (s : List PositionSyntax) → Whole ws (listed (book_reading asked s))
+  packet_whole : (s : List PositionSyntax) → Whole ws (listed (update_part asked s))
   packet_whole s = rw (← update_is (part_of file k) offset true ws (length s) s refl) (whole_entry _ _ (update_known _ offset (length s) s (omega arith)))
 
   update_whole : Whole ws (update_listed file k asked)
   unfolding update_listed fields_of outcome_in
   update_whole =
-      by_pick (Whole ws) (is_accepted (scene_step (packet file 0) []).told) _ _
+      by_pick (Whole ws) (is_accepted (step_in show scene_step (packet file 0) []).told) _ _
       (λ _. packet_whole (shapes_before file k))
       (λ _. unread NoScene)
 

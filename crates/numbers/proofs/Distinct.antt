@@ -13,9 +13,9 @@ use Rattle.text.specs.Text.{ascii, same_text}
 use Rattle.text.proofs.Rows.{every, at_number, last_row}
 use Rattle.numbers.specs.Meaning.{meanings, up_to_bar, meaning, HasWords}
 
--- 1 to 26 and 31 to 38
+-- 1 to 26 and 31 to 39
 abbrev pub is_number : ℕ → Bool
-is_number n = (leb 1 n && leb n 26) || (leb 31 n && leb n 38)
+is_number n = (leb 1 n && leb n 26) || (leb 31 n && leb n 39)
 
 -- the number that has these words
 number_with : List ℕ → ℕ
@@ -34,9 +34,9 @@ in_table : (n : ℕ) → is_number n ≡ true → n < length meanings
 unfolding meanings
 in_table n h = go (leb 1 n && leb n 26) refl
   where
-    go : (b : Bool) → (leb 1 n && leb n 26) ≡ b → n < 39
+    go : (b : Bool) → (leb 1 n && leb n 26) ≡ b → n < 40
     go true e = let z = leb-true n 26 (both (leb 1 n) e).1 in omega arith
-    go false e = let z = leb-true n 38 (both (leb 31 n) (rw e at h)).1 in omega arith
+    go false e = let z = leb-true n 39 (both (leb 31 n) (rw e at h)).1 in omega arith
 
 number_back : (n : ℕ) → is_number n ≡ true → number_with (meaning n) ≡ n
 unfolding meaning

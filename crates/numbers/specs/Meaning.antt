@@ -47,6 +47,7 @@ meanings =
     ∷ "not as many new parents as shapes|                         "
     ∷ "the parent that changes is not dynamic|                    "
     ∷ "buffer too short for the packet|                           "
+    ∷ "eight or more bits follow, or one of them is 1|            "
     ∷ []
 
 -- the text of a row

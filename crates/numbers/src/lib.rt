@@ -8,7 +8,7 @@ ghost use Rattle.numbers.specs.Meaning.{meaning};
 use text::Writer;
 
 // The words for each number from 0 on. Numbers that the papers do not have, 0 and 27 to 30 among them, have those of 0.
-const MEANINGS: [&[u8]; 39] = [
+const MEANINGS: [&[u8]; 40] = [
     b"a number without a meaning",
     b"the input has more than 8,388,608 bytes",
     b"more than 63 shapes, or a precision above 24",
@@ -48,6 +48,7 @@ const MEANINGS: [&[u8]; 39] = [
     b"not as many new parents as shapes",
     b"the parent that changes is not dynamic",
     b"buffer too short for the packet",
+    b"eight or more bits follow, or one of them is 1",
 ];
 
 // What a number means.

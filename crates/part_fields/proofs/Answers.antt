@@ -21,7 +21,7 @@ use Rattle.validation.specs.Validation.{GraphAnswered}
 use Rattle.scene.specs.declared.SceneAnswer.{SceneAnswer}
 use Rattle.scene.specs.Scene.{SceneAnswered}
 use Rattle.book.specs.Step.{book_state}
-use Rattle.book.specs.Book.{is_accepted, book_scene, book_reading, scene_step, book_shapes}
+use Rattle.book.specs.Book.{is_accepted, scene_step, show, step_in, scene_part, update_part, book_shapes}
 use Rattle.book.proofs.Book.{scene_answer, scene_declares, update_left}
 use Rattle.show_header.specs.Header.{part_count, file_question}
 use Rattle.show_parts.specs.Parts.{packet, packets}
@@ -31,12 +31,12 @@ use Rattle.part_fields.specs.Part.{listed, unlisted, shapes_before, part_from, u
 
 -- the shapes that the parts from i up to k leave: one of them, and those after it
 module _ (file : List ℕ) (k i : ℕ) (s : List PositionSyntax) where
-  pub shapes_more : i < k → {a : GraphAnswer} {t : List PositionSyntax} {vs : List ℕ} → GraphAnswered (book_reading (packet file i) s) s false [] a t vs →
-      book_shapes (packets file (k - (i + 1)) (i + 1)) t ≡ book_shapes (packets file (k - i) i) s
+  pub shapes_more : i < k → {a : GraphAnswer} {t : List PositionSyntax} {vs : List ℕ} → GraphAnswered (update_part (packet file i) s) s false [] a t vs →
+      book_shapes show (packets file (k - (i + 1)) (i + 1)) t ≡ book_shapes show (packets file (k - i) i) s
   unfolding packets book_state
   shapes_more h y = let more : k - i ≡ suc (k - (i + 1)) = omega arith in rw (more, update_left (packet file i) y)
 
-  pub shapes_end : k ≤ i → s ≡ book_shapes (packets file (k - i) i) s
+  pub shapes_end : k ≤ i → s ≡ book_shapes show (packets file (k - i) i) s
   unfolding packets book_state
   shapes_end h = let none : k - i ≡ 0 = omega arith in rw none
 
@@ -50,20 +50,20 @@ unfolding recorded encoded
 unread_answered = record { answer = refl; words = refl }
 
 -- whether the scene was read, by its answer
-scene_told : (file : List ℕ) {scene : SceneAnswer} {us : List ℕ} → SceneAnswered (book_scene (packet file 0)) false [] scene us → {b : Bool} →
-    is_read scene.graph.answer.outcome ≡ b → is_accepted (scene_step (packet file 0) []).told ≡ b
+scene_told : (file : List ℕ) {scene : SceneAnswer} {us : List ℕ} → SceneAnswered (scene_part (packet file 0)) false [] scene us → {b : Bool} →
+    is_read scene.graph.answer.outcome ≡ b → is_accepted (step_in show scene_step (packet file 0) []).told ≡ b
 scene_told file y h = rw (scene_answer (packet file 0) y) at h
 
 module _ (file : List ℕ) (k offset : ℕ) {ws : List ℕ} where
   -- an update, by what the scene answered, and the shapes that the parts between them left
-  module _ {scene : SceneAnswer} {us : List ℕ} (y : SceneAnswered (book_scene (packet file 0)) false [] scene us) where
+  module _ {scene : SceneAnswer} {us : List ℕ} (y : SceneAnswered (scene_part (packet file 0)) false [] scene us) where
     pub update_answered : is_read scene.graph.answer.outcome ≡ true → {shapes next : List PositionSyntax} →
-        shapes ≡ book_shapes (packets file (k - 1) 1) (take scene.count scene.shapes) → {vs : List ℕ} {r : GraphAnswer} →
-        GraphAnswered (book_reading (part_from file k offset ws) shapes) shapes true ws r next vs →
+        shapes ≡ book_shapes show (packets file (k - 1) 1) (take scene.count scene.shapes) → {vs : List ℕ} {r : GraphAnswer} →
+        GraphAnswered (update_part (part_from file k offset ws) shapes) shapes true ws r next vs →
         PartAnswered (update_listed file k (part_from file k offset ws)) ws (Ok r.answer) vs
     unfolding update_listed shapes_before
-    update_answered h e z =
-        let before = e ∙ ap (book_shapes (packets file (k - 1) 1)) (scene_declares (packet file 0) y) in
+    update_answered h {shapes = shapes} e z =
+        let before : shapes ≡ shapes_before file k = e ∙ ap (book_shapes show (packets file (k - 1) 1)) (scene_declares (packet file 0) y) in
         rw (scene_told file y h, ← before) (read_answered z)
 
     pub scene_unread : is_read scene.graph.answer.outcome ≡ false → PartAnswered (update_listed file k (part_from file k offset ws)) ws (Err NoScene) ws
@@ -76,7 +76,7 @@ module _ (file : List ℕ) (k offset : ℕ) {ws : List ℕ} where
     unfolding sound_listed
     no_part h = rw (← e, le-ltb k n h) unread_answered
 
-    pub scene_answered : k < n → k ≡ 0 → {vs : List ℕ} {r : SceneAnswer} → SceneAnswered (book_scene (part_from file 0 offset ws)) true ws r vs →
+    pub scene_answered : k < n → k ≡ 0 → {vs : List ℕ} {r : SceneAnswer} → SceneAnswered (scene_part (part_from file 0 offset ws)) true ws r vs →
         PartAnswered (sound_listed file k (part_from file k offset ws)) ws (Ok r.graph.answer) vs
     unfolding sound_listed
     scene_answered h z y = rw (z, ← e, lt-ltb 0 n (omega arith)) (read_answered y.answered)

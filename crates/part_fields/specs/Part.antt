@@ -7,7 +7,7 @@ use Rattle.rules.specs.Reading.{Reading, ended_at}
 use Rattle.rules.specs.Words.{recorded}
 use Rattle.rules.specs.Answer.{answer_of}
 use Rattle.position.specs.declared.PositionSyntax.{PositionSyntax}
-use Rattle.book.specs.Book.{Packet, packet_of, is_accepted, book_scene, book_reading, scene_step, book_first, book_shapes}
+use Rattle.book.specs.Book.{Packet, packet_of, is_accepted, scene_step, show, step_in, scene_part, update_part, book_first, book_shapes}
 use Rattle.show_header.specs.Header.{part_count, part_of, file_question}
 use Rattle.show_parts.specs.Parts.{packet, packets}
 use Rattle.part_fields.specs.declared.NotRead.{NotRead}
@@ -27,7 +27,7 @@ unlisted a = record { answer = Err a; fields = [] }
 
 -- the shapes that the parts before part k leave, each of them read as the show reads it
 unfoldable pub shapes_before : List ℕ → ℕ → List PositionSyntax
-shapes_before file k = book_shapes (packets file (k - 1) 1) (book_first (packet file 0))
+shapes_before file k = book_shapes show (packets file (k - 1) 1) (book_first show (packet file 0))
 
 -- part k as it is asked for: from a bit on, with recording
 abbrev pub part_from : List ℕ → ℕ → ℕ → List ℕ → Packet
@@ -36,13 +36,13 @@ part_from file k offset ws = packet_of (part_of file k) offset true ws
 -- What is listed of part k, read as the packet p: of an update, if the show reads part 0; ..
 unfoldable pub update_listed : List ℕ → ℕ → Packet → Listed
 update_listed file k p =
-    pick (is_accepted (scene_step (packet file 0) []).told)
-    (listed (book_reading p (shapes_before file k)))
+    pick (is_accepted (step_in show scene_step (packet file 0) []).told)
+    (listed (update_part p (shapes_before file k)))
     (unlisted NoScene)
 
 -- .. of a file whose header is sound: part 0 is a scene, the others are updates; ..
 unfoldable pub sound_listed : List ℕ → ℕ → Packet → Listed
-sound_listed file k p = pick (ltb k (part_count file)) (pick (eqb k 0) (listed (book_scene p)) (update_listed file k p)) (unlisted NoPart)
+sound_listed file k p = pick (ltb k (part_count file)) (pick (eqb k 0) (listed (scene_part p)) (update_listed file k p)) (unlisted NoPart)
 
 -- .. and of any file.
 unfoldable pub part_listed : List ℕ → ℕ → Packet → Listed

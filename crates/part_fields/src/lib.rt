@@ -1,8 +1,8 @@
 // One part of a show file, read with its fields after the parts before it: what `scene-fields part K` lists.
 #![tactic(auto)]
 
-ghost use Rattle.std.specs.Prelude.{◌≡◌, ◌-◌, ◌<◌};
-ghost use Rattle.book.specs.Book.{book_shapes};
+ghost use Rattle.std.specs.Prelude.{◌≡◌, ◌-◌, ◌<◌, ◌≤◌, take};
+ghost use Rattle.book.specs.Book.{show, book_shapes};
 ghost use Rattle.show_header.specs.Header.{part_count};
 ghost use Rattle.show_parts.specs.Parts.{packets};
 ghost use Rattle.part_fields.specs.Part.{part_from, update_listed, sound_listed, part_listed, PartAnswered};
@@ -18,13 +18,14 @@ pub enum NotRead {
     NoScene,
 }
 
-// The shapes of the scene become those that the updates before part `k` leave.
-fn shapes_before(file: &ShowFile<'_>, k: usize, shapes: &mut [PositionSyntax])
-    requires { k < part_count file.now.bytes.now }
-    ensures { shapes.new ≡ book_shapes (packets file.now.bytes.now (k - 1) 1) shapes.old }
+// The first `count` shapes, those of the scene, become those that the updates before part `k` leave.
+fn shapes_before(file: &ShowFile<'_>, k: usize, shapes: &mut [PositionSyntax; 63], count: usize)
+    requires part { k < part_count file.now.bytes.now }
+    requires few { count ≤ 63 }
+    ensures { take count shapes.new ≡ book_shapes show (packets file.now.bytes.now (k - 1) 1) (take count shapes.old) }
 {
     for i in 1..k {
-        show_parts::show_update(file, i, shapes);
+        show_parts::show_update(file, i, shapes, count);
     }
 }
 
@@ -45,9 +46,9 @@ fn read_update(
         return Err(NotRead::NoScene);
     }
     let count = scene.count;
-    let shapes = &mut scene.shapes[..count];
-    shapes_before(file, k, shapes);
-    Ok(show_parts::update_part(file, k, offset, true, words, shapes).answer)
+    shapes_before(file, k, &mut scene.shapes, count);
+    let graph = show_parts::update_part(file, k, offset, true, words, &mut scene.shapes, count);
+    Ok(graph.answer)
 }
 
 // Part `k` of a show.

@@ -1,17 +1,18 @@
--- What is claimed of the show: the text that `show` leaves in memory tells the answers that calls on its parts get, each on the
--- shapes that the call before left, and the parents and ranks of the shapes that they leave.
+-- What is claimed of the show: the text that `show` leaves in memory tells the answers that calls on its parts get, each on the shapes
+-- for it, and the parents and ranks of the shapes after the last. A call after which question 39 is not met is told as refused by it, and the
+-- next call is on the shapes from before.
 use Rattle.std.specs.Prelude.{ℕ, ◌-◌, ◌≡◌, List, [], ◌∷◌, ◌++◌, false, take}
 use mir.Val.{Val}
 use base.Logic.{SProp}
 use prog.Memory.{Memory}
 use prog.Routine.{Env}
 use borrow.Fn.World.{World}
-use Rattle.rules.specs.Reading.{is_read}
 use Rattle.position.specs.declared.PositionSyntax.{PositionSyntax}
 use Rattle.ranks.specs.Rank.{Ranks, Largest, rank_of}
 use Rattle.validation.specs.Validation.{parents, largest_rank}
 use Rattle.text.proofs.TextAnswer.TheLaws as text-answer
 use Rattle.book.specs.Step.{all_fed, all_told}
+use Rattle.book.specs.Book.{Given, is_accepted, show, settled}
 use Rattle.show_header.specs.Header.{part_count, file_question}
 use Rattle.show_parts.specs.Parts.{packet, packets}
 use Rattle.show_lines.specs.Lines.{part_line, shapes_text}
@@ -23,7 +24,7 @@ use Rattle.owner.specs.Holds as holds
 use Rattle.runs.specs.Sent.{Variant, Sent}
 use Rattle.runs.specs.Scene.{SceneRead}
 use Rattle.printed_runs.specs.Show.{Showing, ShowingFits, ShowInCells, Shown}
-use Rattle.claims.specs.Calls.{Call, packet_sent, Accepted, Through}
+use Rattle.claims.specs.Calls.{Call, packet_sent, scene_gave, Accepted, Through}
 
 module _ (w : World) (γ : Env) where
   abbrev Beside : Type 2
@@ -45,16 +46,18 @@ module _ (w : World) (γ : Env) where
         Ran (γ show_name) (slice p.file ∷ pointer p.text ∷ []) σ v ρ →
         ◌≡◌ {A = Val × Memory} (v, ρ) (text-answer.lowered run.answer, run.memory)
     pub defined : (p : Showing) (σ : Memory) (F : Beside) (run : Shown w γ p σ F) → text_of run ≡ show_text p.file.held
-    -- A file that is not refused. If a reading of part 0 as a scene did not accept it, its answer is all that is told.
+    -- A file that is not refused. If a reading of part 0 as a scene is not accepted in the show, its answer is all that is told.
     pub refused : (p : Showing) (σ : Memory) (F : Beside) (run : Shown w γ p σ F) → file_question p.file.held ≡ 0 →
         (x : Variant) (q : Sent) (π : Memory) (G : Beside) (scene : SceneRead w γ x q π G) → packet_sent q ≡ packet p.file.held 0 →
-        is_read scene.answer.graph.answer.outcome ≡ false → text_of run ≡ part_line 0 scene.answer.graph.answer
-    -- If it did, and updates were called on the other parts, one after another through one memory, each on the shapes that the call
-    -- before left, then the answers that are told are theirs, and the positions those of the shapes that they left ..
+        (told : Given) → told ≡ (settled show (packet_sent q) [] (scene_gave w γ scene)).told → is_accepted told ≡ false →
+        text_of run ≡ part_line 0 told.graph.answer
+    -- If it is, and updates were called on the other parts, one after another through one memory, each on the shapes for it in the show,
+    -- then the answers that are told are theirs, and the positions those of the shapes after the last ..
     pub told : (p : Showing) (σ : Memory) (F : Beside) (run : Shown w γ p σ F) → file_question p.file.held ≡ 0 →
-        (scene : Call) (s t : List PositionSyntax) (π ρ : Memory) (cs : List Call) → Accepted w γ scene s π → Through w γ π s cs ρ t →
-        scene.fed ≡ packet p.file.held 0 → all_fed cs ≡ packets p.file.held (part_count p.file.held - 1) 1 →
+        (scene : Call) (s t : List PositionSyntax) (π ρ : Memory) (cs : List Call) → Accepted w γ show scene s π →
+        Through w γ show π s cs ρ t → scene.fed ≡ packet p.file.held 0 →
+        all_fed cs ≡ packets p.file.held (part_count p.file.held - 1) 1 →
         text_of run ≡ part_line 0 scene.told.graph.answer ++ (part_lines 1 (all_told cs) ++ shapes_text t)
     -- .. which have the ranks that are told, and of these the largest.
-    pub ranks : (scene : Call) (s t : List PositionSyntax) (π ρ : Memory) (cs : List Call) → Accepted w γ scene s π → Through w γ π s cs ρ t →
-        Ranks (parents t) (rank_of (parents t)) × Largest (parents t) (rank_of (parents t)) (largest_rank t)
+    pub ranks : (scene : Call) (s t : List PositionSyntax) (π ρ : Memory) (cs : List Call) → Accepted w γ show scene s π →
+        Through w γ show π s cs ρ t → Ranks (parents t) (rank_of (parents t)) × Largest (parents t) (rank_of (parents t)) (largest_rank t)

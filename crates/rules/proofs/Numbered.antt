@@ -3,7 +3,7 @@ use mathlib.Core.Path.{◌≡◌, refl}
 use mathlib.Core.Bool.{false}
 use lib.Dec.{eqb}
 use Rattle.rules.specs.declared.reason.Reason.{Reason}
-use Rattle.rules.specs.declared.reason.Reason.TheVariants.{InputTooLong, BadShapes, BitsMissing, TooManyFields, NoRoom, BadCount, ExtensionsUnended, ParentUndeclared, ParentsInCircle, NoConfiguration, TooManyParameters, TooManyRendererParameters, ReverbType, MatrixLocation, RadiationType, ComponentType, LabelUnended, HeadphoneBytes, CompressionBytes, SymbolWidth, CodewordWidth, BadProbabilities, FileTooLong, HeaderUnsound, NameUnknown, TextTooLong, RoomGeometryFallback, DoublePrecision, HrtfType2, HrtfType, LzwWidth, ListsDiffer, ParentNotDynamic, PacketTooLong}
+use Rattle.rules.specs.declared.reason.Reason.TheVariants.{InputTooLong, BadShapes, BitsMissing, TooManyFields, NoRoom, BadCount, ExtensionsUnended, ParentUndeclared, ParentsInCircle, NoConfiguration, TooManyParameters, TooManyRendererParameters, ReverbType, MatrixLocation, RadiationType, ComponentType, LabelUnended, HeadphoneBytes, CompressionBytes, SymbolWidth, CodewordWidth, BadProbabilities, FileTooLong, HeaderUnsound, NameUnknown, TextTooLong, RoomGeometryFallback, DoublePrecision, HrtfType2, HrtfType, LzwWidth, ListsDiffer, ParentNotDynamic, PacketTooLong, BitsFollow}
 use Rattle.rules.specs.Reason.{number_of}
 
 pub numbered : (e : Reason) → eqb (number_of e) 0 ≡ false
@@ -41,3 +41,4 @@ numbered LzwWidth = refl
 numbered ListsDiffer = refl
 numbered ParentNotDynamic = refl
 numbered PacketTooLong = refl
+numbered BitsFollow = refl

@@ -1,7 +1,7 @@
 -- Why a reading ended, by the code's enum: its number, and whether it refuses or stops.
 use Rattle.std.specs.Prelude.{ℕ, ◌≡◌, Result, Ok, Err, MatchResult}
 use Rattle.rules.specs.declared.reason.Reason.{Reason}
-use Rattle.rules.specs.declared.reason.Reason.TheVariants.{InputTooLong, BadShapes, BitsMissing, TooManyFields, NoRoom, BadCount, ExtensionsUnended, ParentUndeclared, ParentsInCircle, NoConfiguration, TooManyParameters, TooManyRendererParameters, ReverbType, MatrixLocation, RadiationType, ComponentType, LabelUnended, HeadphoneBytes, CompressionBytes, SymbolWidth, CodewordWidth, BadProbabilities, FileTooLong, HeaderUnsound, NameUnknown, TextTooLong, RoomGeometryFallback, DoublePrecision, HrtfType2, HrtfType, LzwWidth, ListsDiffer, ParentNotDynamic, PacketTooLong}
+use Rattle.rules.specs.declared.reason.Reason.TheVariants.{InputTooLong, BadShapes, BitsMissing, TooManyFields, NoRoom, BadCount, ExtensionsUnended, ParentUndeclared, ParentsInCircle, NoConfiguration, TooManyParameters, TooManyRendererParameters, ReverbType, MatrixLocation, RadiationType, ComponentType, LabelUnended, HeadphoneBytes, CompressionBytes, SymbolWidth, CodewordWidth, BadProbabilities, FileTooLong, HeaderUnsound, NameUnknown, TextTooLong, RoomGeometryFallback, DoublePrecision, HrtfType2, HrtfType, LzwWidth, ListsDiffer, ParentNotDynamic, PacketTooLong, BitsFollow}
 use Rattle.rules.specs.declared.reason.UnknownReason.{UnknownReason}
 use Rattle.rules.specs.Rule.{End, refused, stopped}
 
@@ -40,6 +40,7 @@ number_of LzwWidth = 35
 number_of ListsDiffer = 36
 number_of ParentNotDynamic = 37
 number_of PacketTooLong = 38
+number_of BitsFollow = 39
 
 abbrev pub end_of : Reason → End
 end_of InputTooLong = refused 1
@@ -76,6 +77,7 @@ end_of LzwWidth = stopped 35
 end_of ListsDiffer = refused 36
 end_of ParentNotDynamic = refused 37
 end_of PacketTooLong = refused 38
+end_of BitsFollow = refused 39
 
 -- the number of a question that is not met, or 0
 abbrev pub asked : {A : Type 0} → Result A Reason → ℕ

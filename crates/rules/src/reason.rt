@@ -1,5 +1,5 @@
 // Why a reading ended before it was done, with its number (docs/NUMBERS.md has the words of each). 31 to 35 stop a reading, the
-// others refuse it; 23 and 24 refuse a show file, 25 and 26 a name's text, 36 to 38 the packet of new parents.
+// others refuse it; 23 and 24 refuse a show file, 25 and 26 a name's text, 36 to 38 the packet of new parents, 39 a part of a show.
 ghost use Rattle.std.specs.Prelude.{◌≡◌};
 ghost use Rattle.rules.specs.Reason.{number_of, end_of, Decodes};
 ghost use Rattle.rules.specs.Answer.{end_outcome, ended_as};
@@ -42,6 +42,7 @@ pub enum Reason {
     ListsDiffer = 36,
     ParentNotDynamic = 37,
     PacketTooLong = 38,
+    BitsFollow = 39,
 }
 
 // A number that no reason has.
@@ -128,6 +129,7 @@ impl TryFrom<u16> for Reason {
             36 => Ok(Reason::ListsDiffer),
             37 => Ok(Reason::ParentNotDynamic),
             38 => Ok(Reason::PacketTooLong),
+            39 => Ok(Reason::BitsFollow),
             _ => Err(UnknownReason(number)),
         }
     }

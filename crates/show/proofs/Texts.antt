@@ -15,7 +15,7 @@ use Rattle.validation.specs.Validation.{GraphAnswered}
 use Rattle.scene.specs.declared.SceneAnswer.{SceneAnswer}
 use Rattle.scene.specs.Scene.{SceneAnswered}
 use Rattle.book.specs.Step.{book_told, book_state}
-use Rattle.book.specs.Book.{book_scene, book_reading, update_step}
+use Rattle.book.specs.Book.{update_step, show, step_in, scene_part, update_part}
 use Rattle.book.proofs.Book.{scene_answer, scene_declares, update_answer, update_left}
 use Rattle.text.specs.Text.{line}
 use Rattle.show_header.specs.Header.{part_count, file_question}
@@ -25,19 +25,20 @@ use Rattle.show.specs.Show.{part_lines, updates_text, rest_text, parts_text, sho
 
 module _ (file : List ℕ) (n k : ℕ) (s : List PositionSyntax) where
   -- one update, and what follows it
-  pub update_more : k < n → {a : GraphAnswer} {t : List PositionSyntax} {vs : List ℕ} → GraphAnswered (book_reading (packet file k) s) s false [] a t vs →
+  pub update_more : k < n → {a : GraphAnswer} {t : List PositionSyntax} {vs : List ℕ} → GraphAnswered (update_part (packet file k) s) s false [] a t vs →
       updates_text k (packets file (n - k) k) s ≡ part_line k a.answer ++ updates_text (k + 1) (packets file (n - (k + 1)) (k + 1)) t
   unfolding updates_text packets part_lines book_told book_state
   update_more h y =
       let more : n - k ≡ suc (n - (k + 1)) = omega arith in
-      rw (more, update_answer (packet file k) y, update_left (packet file k) y) (append_assoc (part_line k (update_step (packet file k) s).told.graph.answer) _ _)
+      let first = part_line k (step_in show update_step (packet file k) s).told.graph.answer in
+      rw (more, update_answer (packet file k) y, update_left (packet file k) y) (append_assoc first _ _)
 
   pub update_end : n ≤ k → updates_text k (packets file (n - k) k) s ≡ shapes_text s
   unfolding updates_text packets part_lines book_told book_state
   update_end h = let none : n - k ≡ 0 = omega arith in rw none
 
 -- What stands after the line of part 0, by what the scene answered.
-module _ (file : List ℕ) {r : SceneAnswer} {vs : List ℕ} (y : SceneAnswered (book_scene (packet file 0)) false [] r vs) where
+module _ (file : List ℕ) {r : SceneAnswer} {vs : List ℕ} (y : SceneAnswered (scene_part (packet file 0)) false [] r vs) where
   pub parts_by_scene : parts_text file ≡ part_line 0 r.graph.answer ++ rest_text file r.graph.answer (take r.count r.shapes)
   unfolding parts_text
   parts_by_scene =

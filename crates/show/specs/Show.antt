@@ -6,7 +6,7 @@ use Rattle.rules.specs.declared.Outcome.TheVariants.{Read, Refused}
 use Rattle.rules.specs.Rule.{pick}
 use Rattle.rules.specs.Reading.{is_read}
 use Rattle.position.specs.declared.PositionSyntax.{PositionSyntax}
-use Rattle.book.specs.Book.{Packet, Given, scene_step, book_answers, book_shapes}
+use Rattle.book.specs.Book.{Packet, Given, scene_step, show, step_in, book_answers, book_shapes}
 use Rattle.text.specs.declared.TextAnswer.{TextAnswer}
 use Rattle.text.specs.Text.{line, Put}
 use Rattle.show_header.specs.Header.{part_count, file_question}
@@ -20,7 +20,7 @@ part_lines k (g ∷ gs) = part_line k g.graph.answer ++ part_lines (k + 1) gs
 
 -- packets on the shapes s, the first of them being part k: their lines, and what is printed of the shapes after them
 unfoldable pub updates_text : ℕ → List Packet → List PositionSyntax → List ℕ
-updates_text k ps s = part_lines k (book_answers ps s) ++ shapes_text (book_shapes ps s)
+updates_text k ps s = part_lines k (book_answers show ps s) ++ shapes_text (book_shapes show ps s)
 
 -- Part 0 is a scene, the others are updates. If part 0 is refused its line is the only one.
 unfoldable pub rest_text : List ℕ → Answer → List PositionSyntax → List ℕ
@@ -28,7 +28,7 @@ rest_text file scene s = pick (is_read scene.outcome) (updates_text 1 (packets f
 
 unfoldable pub parts_text : List ℕ → List ℕ
 parts_text file =
-    let scene = scene_step (packet file 0) [] in
+    let scene = step_in show scene_step (packet file 0) [] in
     part_line 0 scene.told.graph.answer ++ rest_text file scene.told.graph.answer scene.left
 
 unfoldable pub show_text : List ℕ → List ℕ

@@ -1,7 +1,7 @@
 // A show file, and the text that `scene-show` prints of it.
 #![tactic(auto)]
 
-ghost use Rattle.std.specs.Prelude.{◌≡◌, ◌-◌, ◌≤◌, length};
+ghost use Rattle.std.specs.Prelude.{◌≡◌, ◌-◌, ◌≤◌, take};
 ghost use Rattle.text.specs.Writer.{Fits, Wrote};
 ghost use Rattle.show_header.specs.Header.{part_count, file_question};
 ghost use Rattle.show_parts.specs.Parts.{packets};
@@ -15,21 +15,27 @@ use text::{TextAnswer, Writer};
 // The bytes that are lent for the text: enough for every file.
 pub const TEXT: usize = 32768;
 
-// Puts a line for each update, every one of which finds the shapes that the one before left, and then what is printed of the shapes.
-fn put_updates(writer: &mut Writer<'_>, file: &ShowFile<'_>, shapes: &mut [PositionSyntax])
-    requires few { length shapes.old ≤ 63 }
+// Puts a line for each update, every one of which finds the shapes that the one before left, and then what is printed of the first
+// `count` shapes.
+fn put_updates(
+    writer: &mut Writer<'_>,
+    file: &ShowFile<'_>,
+    shapes: &mut [PositionSyntax; 63],
+    count: usize,
+)
+    requires few { count ≤ 63 }
     requires room { Fits
-        (updates_text 1 (packets file.now.bytes.now (part_count file.now.bytes.now - 1) 1) shapes.old)
+        (updates_text 1 (packets file.now.bytes.now (part_count file.now.bytes.now - 1) 1) (take count shapes.old))
         writer.old }
     ensures { Wrote
-        (updates_text 1 (packets file.now.bytes.now (part_count file.now.bytes.now - 1) 1) shapes.old)
+        (updates_text 1 (packets file.now.bytes.now (part_count file.now.bytes.now - 1) 1) (take count shapes.old))
         writer.old writer.new }
 {
     for k in 1..file.part_count() {
-        let graph = show_parts::show_update(file, k, shapes);
+        let graph = show_parts::show_update(file, k, shapes, count);
         show_lines::put_part(writer, k, graph.answer);
     }
-    show_lines::put_shapes(writer, shapes);
+    show_lines::put_shapes(writer, &shapes[..count]);
 }
 
 // Puts a line for part 0, and what follows it if the scene was read.
@@ -40,8 +46,7 @@ fn put_parts(writer: &mut Writer<'_>, file: &ShowFile<'_>)
     let mut scene = show_parts::show_scene(file);
     show_lines::put_part(writer, 0, scene.graph.answer);
     if scene.graph.answer.outcome.is_read() {
-        let count = scene.count;
-        put_updates(writer, file, &mut scene.shapes[..count]);
+        put_updates(writer, file, &mut scene.shapes, scene.count);
     }
 }
 

@@ -7,7 +7,7 @@ use mathlib.Core.Logic.{◌↔◌}
 use native.Mathlib.Omega.{arith}
 use borrow.Author.Tests.{ltb-true, ltb-false, leb-true, eqb-true, lt-ltb, le-ltb, le-leb, lt-leb, eq-eqb, ne_eqb}
 use lib.Dec.{ltb, leb, eqb}
-use lib.ListN.{length, take, drop}
+use lib.ListN.{length, take, drop, length-take, length-drop}
 use Rattle.rules.specs.Rule.{pick}
 use Rattle.rules.proofs.Pick.{by_pick}
 use Rattle.rules.proofs.Laws.{both}
@@ -157,3 +157,11 @@ module _ (file : List ℕ) where
       by true true e = refl
       by true false e = absurd (omega arith)
       by false b e = absurd (omega arith)
+
+-- A part is no longer than the file.
+pub part_few : (file : List ℕ) (k : ℕ) → length file ≤ 65536 → length (part_of file k) ≤ 65536
+unfolding part_of
+part_few file k few =
+    let rest = length-drop (offset_of file k) file in
+    let some = length-take (end_of file k - offset_of file k) (drop (offset_of file k) file) in
+    omega (arith, few, rest, some)

@@ -2,7 +2,7 @@
 // asked of the file before any part is read.
 #![tactic(auto)]
 
-ghost use Rattle.std.specs.Prelude.{◌≡◌, ◌≤◌, ◌<◌, IfOk, IfErr};
+ghost use Rattle.std.specs.Prelude.{◌≡◌, ◌≤◌, ◌<◌, IfOk, IfErr, length};
 ghost use Rattle.show_header.specs.Header.{HeaderSound, part_count, offset_of, end_of};
 ghost use Rattle.show_header.specs.Header.{part_of, in_order, is_sound, file_question};
 ghost use Rattle.rules.specs.Reason.{asked, Refuses};
@@ -14,11 +14,12 @@ const BYTES: usize = 65536;
 
 const PARTS: usize = 256;
 
-// A show file, which has a sound header.
+// A show file: it has a sound header, and not too many bytes.
 #[derive(Clone, Copy)]
 pub struct ShowFile<'a> {
     pub bytes: &'a [u8],
     ghost sound: { HeaderSound bytes.now },
+    ghost few: { length bytes.now ≤ 65536 },
 }
 
 pub fn part_count(file: &[u8]) -> usize
@@ -100,7 +101,8 @@ impl<'a> ShowFile<'a> {
     // The bytes of part `k`.
     pub fn part(&self, k: usize) -> &'a [u8]
         requires { k < part_count self.now.bytes.now }
-        ensures { result.now ≡ part_of self.now.bytes.now k }
+        ensures bytes { result.now ≡ part_of self.now.bytes.now k }
+        ensures few { length result.now ≤ 65536 }
     {
         let start = offset_of(self.bytes, k);
         let end = end_of(self.bytes, k);

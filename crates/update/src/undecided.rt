@@ -1,6 +1,6 @@
-// The reading of an update before it is decided whether it counts, for `graph_update` here and for the crate `lent` alone. Unless
-// the update was read, the first `count` shapes that `read_update` leaves are free: nothing is promised of them. Whether they
-// count is decided by its two callers. Question 2 is asked elsewhere too, of shapes for which an update is written.
+// The reading of an update before it is decided whether it counts, for `graph_update` here and for the crates `lent` and `show_parts`
+// alone. Unless the update was read, the first `count` shapes that `read_update` leaves are free: nothing is promised of them. Whether
+// they count is decided by its callers. Question 2 is asked elsewhere too, of shapes for which an update is written.
 ghost use Rattle.std.specs.Prelude.{◌≡◌, ℕ, ◌≤◌, ◌<◌, length, get_or, take, IfOk};
 ghost use Rattle.rules.specs.Answer.{input_of, entry_then};
 ghost use Rattle.parser.specs.Met.{Met, giving};

@@ -19,6 +19,8 @@ use crate::request::Request;
 use crate::rng::Rng;
 use batch::Batch;
 use fixed::corners;
+#[cfg(test)]
+pub(crate) use fixed::shows::file;
 
 type Part = fn(&mut Batch<'_>);
 

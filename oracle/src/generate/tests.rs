@@ -6,12 +6,14 @@ use super::random::readings;
 use super::variants::Good;
 use super::{Part, fixed, random};
 use crate::answer::{Answer, Outcome};
+use crate::bits::Bits;
 use crate::driver::answer;
 use crate::names;
 use crate::ranks::deepest;
 use crate::record::record;
 use crate::request::{List, Question, Request, Shape};
 use crate::rng::Rng;
+use crate::show::{self, part_end};
 use crate::table::{Table, ends};
 use std::collections::{BTreeMap, BTreeSet};
 use std::ops::RangeInclusive;
@@ -115,7 +117,7 @@ fn sample_is_bounded() {
     let requests = sample();
     let size = |request| record(request).expect("an answer").len();
     assert!((2_500..=4_000).contains(&requests.len()));
-    assert!(requests.iter().map(size).sum::<usize>() <= 790_000);
+    assert!(requests.iter().map(size).sum::<usize>() <= 825_000);
 }
 
 #[test]
@@ -354,16 +356,9 @@ fn shows_reach_every_number() {
 fn shows_reach_every_line() {
     for shows in &*SHOWS {
         let lines: Vec<&str> = shows.iter().flat_map(|show| show.text.lines()).collect();
-        let ends = |scene| -> BTreeSet<&str> {
-            let ends = lines.iter().filter_map(|line| part_end(line));
-            let of_kind = ends.filter(|(part, _)| (*part == "0") == scene);
-            of_kind.map(|(_, end)| end).collect()
-        };
-        assert_eq!(
-            ends(true),
-            BTreeSet::from(["read", "3", "6", "7", "8", "9"])
-        );
-        assert_eq!(ends(false), BTreeSet::from(["read", "3", "7", "8", "9"]));
+        let ends = |scene| -> BTreeSet<u8> { part_ends(shows, scene).collect() };
+        assert!(ends(true).into_iter().eq([0, 3, 6, 7, 8, 9, 39]));
+        assert!(ends(false).into_iter().eq([0, 3, 7, 8, 9, 39]));
         assert!(lines.iter().any(|line| line.ends_with(" rank 63")));
         for deepest in ["deepest 0", "deepest 1", "deepest 2", "deepest 63"] {
             assert!(lines.contains(&deepest), "{deepest}");
@@ -371,12 +366,71 @@ fn shows_reach_every_line() {
     }
 }
 
-/// The part of a line, and that it was read or the number that it was refused by.
-fn part_end(line: &str) -> Option<(&str, &str)> {
-    match line.split(' ').collect::<Vec<_>>().as_slice() {
-        ["part", part, "read", ..] => Some((part, "read")),
-        ["part", part, _, number, ..] => Some((part, number)),
-        _ => None,
+/// The numbers of the scenes or of the updates of shows.
+fn part_ends(shows: &[Shown], scene: bool) -> impl Iterator<Item = u8> {
+    let lines = shows.iter().flat_map(|show| show.text.lines());
+    let ends = lines.filter_map(part_end);
+    ends.filter_map(move |(part, _, number)| ((part == "0") == scene).then_some(number))
+}
+
+#[test]
+fn shows_are_often_refused_for_what_follows() {
+    for shows in &*SHOWS {
+        for (scene, least) in [(true, 50), (false, 300)] {
+            let followed = part_ends(shows, scene).filter(|&number| number == 39);
+            assert!(followed.count() >= least, "{scene}");
+        }
+    }
+}
+
+/// What follows the end of a part that its reading read, and the number of the part.
+struct Followed {
+    scene: bool,
+    rest: Bits,
+    number: u8,
+}
+
+fn followed(file: &[u8]) -> Vec<Followed> {
+    let parts = show::parts(file).expect("a sound header");
+    let answers = show::answers(&parts);
+    let asked = parts.iter().zip(&answers).enumerate();
+    let read = asked.filter(|(_, (_, answer))| [0, 39].contains(&answer.verdict.number));
+    let followed = read.map(|(k, (part, Answer { verdict, .. }))| Followed {
+        scene: k == 0,
+        rest: Bits::from(*part).after(verdict.position as usize),
+        number: verdict.number,
+    });
+    followed.collect()
+}
+
+/// Scenes and updates end at every place within a byte, and up to the end of the byte zeros follow, or
+/// zeros with a 1 in every place. So it is with one and with two bytes more, but that scenes have few of
+/// these.
+#[test]
+fn every_rest_follows() {
+    let shows = fixed::followed::shows();
+    let all: Vec<Followed> = shows.iter().flat_map(|file| followed(file)).collect();
+    let check = |scene, rest: &Bits, number| {
+        let same = |one: &&Followed| one.scene == scene && one.rest == *rest;
+        let numbers: BTreeSet<u8> = all.iter().filter(same).map(|one| one.number).collect();
+        assert!(numbers.into_iter().eq([number]), "{scene} {rest:?}");
+    };
+    for length in 0..8 + 16 {
+        let mut zeros = Bits::default();
+        zeros.put(0, length);
+        let number = if length < 8 { 0 } else { 39 };
+        check(false, &zeros, number);
+        if length < 16 {
+            check(true, &zeros, number);
+        }
+        for place in 0..length {
+            let mut rest = zeros.clone();
+            rest.flip(place);
+            check(false, &rest, 39);
+            if length < 8 || length < 16 && [length - 8, length - 1].contains(&place) {
+                check(true, &rest, 39);
+            }
+        }
     }
 }
 
@@ -396,7 +450,7 @@ fn shows_reach_their_limits() {
 #[test]
 fn stored_shows_and_parents_are_bounded() {
     let requests = sample();
-    for (kind, most) in [("show", 300_000), ("parents", 45_000)] {
+    for (kind, most) in [("show", 335_000), ("parents", 45_000)] {
         let of_kind = requests.iter().filter(|request| request.kind() == kind);
         let size = |request| record(request).expect("an answer").len();
         assert!(of_kind.map(size).sum::<usize>() <= most, "{kind}");

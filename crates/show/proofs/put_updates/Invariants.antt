@@ -1,4 +1,5 @@
 use Prim.Native.Nat.{◌-◌}
+use lib.ListN.{take}
 use Rattle.text.proofs.Writes.{Left}
 use Rattle.show_header.specs.Header.{part_count}
 use Rattle.show_parts.specs.Parts.{packets}
@@ -10,4 +11,8 @@ abbrev pub invariant-loop-k : goal.invariant-loop-k
 invariant-loop-k l =
     let bytes = l.file.bytes.now in
     let parts = part_count bytes in
-    Left (updates_text 1 (packets bytes (parts - 1) 1) l.initial.shapes) l.initial.writer (updates_text l.k (packets bytes (parts - l.k) l.k) l.shapes) l.writer
+    Left
+    (updates_text 1 (packets bytes (parts - 1) 1) (take l.count l.initial.shapes))
+    l.initial.writer
+    (updates_text l.k (packets bytes (parts - l.k) l.k) (take l.count l.shapes))
+    l.writer

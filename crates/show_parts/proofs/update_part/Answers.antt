@@ -1,6 +1,15 @@
-use Rattle.book.specs.Book.{book_reading}
+use mathlib.Core.Path.{sym}
+use native.Mathlib.Omega.{arith}
+use Rattle.show_parts.proofs.Answers.{update_inside, update_is_read, update_is_not}
 use Rattle.show_parts.proofs.update_part.Goals as goal
 
-pub returns : goal.returns
-unfolding book_reading
-returns c = rw c.part.ensures at c.graph_update.ensures
+pub part_graph-graph-requires-clause-inside : goal.part_graph-graph-requires-clause-inside
+part_graph-graph-requires-clause-inside c = update_inside _ _ _ _ _ _ (omega arith) c.read_update-read.ensures
+
+pub returns-then-is_read : goal.returns-then-is_read
+returns-then-is_read c =
+    rw (← c.part-part.ensures.bytes) (update_is_read _ _ _ _ _ _ (omega arith) c.read_update-read.ensures c.part_graph-graph.ensures (sym c.if-is_read.ensures))
+
+pub returns-else-is_read : goal.returns-else-is_read
+returns-else-is_read c =
+    rw (← c.part-part.ensures.bytes) (update_is_not _ _ _ _ _ _ (omega arith) c.read_update-read.ensures c.part_graph-graph.ensures (sym c.if-is_read.ensures))

@@ -2,8 +2,8 @@
 //! a parent that is not declared.
 use super::noisy;
 use super::positions::{scene_of, update, update_to};
-use crate::answer::Outcome;
-use crate::driver::{GREATEST_COUNT, read};
+use crate::answer::{Answer, Outcome};
+use crate::driver::GREATEST_COUNT;
 use crate::generate::variants::Good;
 use crate::request::{Input, Question, Shape};
 use crate::rng::Rng;
@@ -16,8 +16,15 @@ const SPOILT_UPDATES: u64 = 35;
 /// How often an update is drafted at most until it ends as it should.
 const TRIES: usize = 12;
 
-/// How many random bits lead before a packet.
-pub type Lead = fn(&mut Rng) -> usize;
+/// What packets are: those of a list, or the parts of a show.
+pub struct Form {
+    /// A packet of good bits alone, in whole bytes.
+    pub alone: fn(&mut Rng, &Good) -> Input,
+    /// Such a packet, now and then with more after it.
+    pub longer: fn(&mut Rng, &Good) -> Input,
+    /// What a packet gives.
+    pub read: fn(Question, &Input) -> Answer,
+}
 
 /// A scene of so many positions.
 pub fn scene_of_some(rng: &mut Rng, count: RangeInclusive<u64>) -> Good {
@@ -26,9 +33,9 @@ pub fn scene_of_some(rng: &mut Rng, count: RangeInclusive<u64>) -> Good {
 }
 
 /// The scene, and so many updates of the shapes that the packets before each have left.
-pub fn some_packets(rng: &mut Rng, scene: &Good, updates: u64, lead: Lead) -> Vec<Input> {
-    let first = packet(rng, scene, SPOILT_SCENES, lead);
-    let scene = read(Question::Scene, first.clone());
+pub fn some_packets(rng: &mut Rng, scene: &Good, updates: u64, form: &Form) -> Vec<Input> {
+    let first = packet(rng, scene, SPOILT_SCENES, form);
+    let scene = (form.read)(Question::Scene, &first);
     let mut packets = vec![first];
     let mut shapes = scene.shapes;
     for _ in 0..updates {
@@ -36,8 +43,8 @@ pub fn some_packets(rng: &mut Rng, scene: &Good, updates: u64, lead: Lead) -> Ve
             Outcome::Read => some_update(rng, &shapes),
             _ => update(rng),
         };
-        let packet = packet(rng, &good, SPOILT_UPDATES, lead);
-        shapes = read(Question::Update(shapes), packet.clone()).shapes;
+        let packet = packet(rng, &good, SPOILT_UPDATES, form);
+        shapes = (form.read)(Question::Update(shapes), &packet).shapes;
         packets.push(packet);
     }
     packets
@@ -62,7 +69,7 @@ fn some_update(rng: &mut Rng, shapes: &[Shape]) -> Good {
 }
 
 /// An update that hangs up to three positions elsewhere, of those that may be.
-fn changed(rng: &mut Rng, shapes: &[Shape]) -> Good {
+pub fn changed(rng: &mut Rng, shapes: &[Shape]) -> Good {
     let mut parents: Vec<u64> = shapes.iter().map(|shape| shape.parent as u64).collect();
     let free: Vec<usize> = (0..shapes.len())
         .filter(|&i| shapes[i].parent_dynamic)
@@ -76,22 +83,23 @@ fn changed(rng: &mut Rng, shapes: &[Shape]) -> Good {
     update_to(rng, shapes.to_vec(), &parents)
 }
 
-/// The good bits and perhaps more bytes; in so many of a hundred cases they are damaged, cut or left
-/// to chance.
-fn packet(rng: &mut Rng, good: &Good, spoilt: u64, lead: Lead) -> Input {
-    let lead = lead(rng);
-    let mut input = good.input(rng, lead);
-    if rng.percent(spoilt) {
-        match rng.below(3) {
-            0 if !good.bits.is_empty() => input = good.damaged(rng).input(rng, lead),
-            1 => {
-                let length = rng.below(input.bytes.len() as u64 + 1);
-                input.bytes.truncate(length as usize);
-            }
-            _ => input.bytes = noisy(rng, 16).bytes(),
+/// The good bits and perhaps more; in so many of a hundred cases they are damaged, cut or left to
+/// chance.
+fn packet(rng: &mut Rng, good: &Good, spoilt: u64, form: &Form) -> Input {
+    if !rng.percent(spoilt) {
+        return (form.longer)(rng, good);
+    }
+    let mut input = (form.alone)(rng, good);
+    match rng.below(3) {
+        0 if !good.bits.is_empty() => {
+            let damaged = good.damaged(rng);
+            input = (form.alone)(rng, &damaged);
         }
-    } else if rng.percent(15) {
-        input.bytes.extend(noisy(rng, 4).bytes());
+        1 => {
+            let length = rng.below(input.bytes.len() as u64 + 1);
+            input.bytes.truncate(length as usize);
+        }
+        _ => input.bytes = noisy(rng, 16).bytes(),
     }
     input
 }

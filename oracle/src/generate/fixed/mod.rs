@@ -2,6 +2,7 @@
 //! examples. What a limit leaves free is still drawn from the seed.
 pub mod boundaries;
 pub mod corners;
+pub mod followed;
 pub mod graphs;
 pub mod labels;
 pub mod lists;

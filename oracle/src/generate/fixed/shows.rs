@@ -1,8 +1,9 @@
 //! Show files that are fixed: every fault and limit of the header, refusals of each kind, the
-//! greatest graphs, and document 01's show with what becomes of it.
+//! greatest graphs, document 01's show with what becomes of it, and those with `followed` parts.
 //!
 //! They take nothing from the random numbers of a batch, so that no other request depends on them.
 use super::boundaries::{bytes, fullest};
+use super::followed;
 use super::graphs::{one_on, pairs, scene_on, update_on, write_head, written};
 use crate::bits::Bits;
 use crate::driver::GREATEST_COUNT;
@@ -66,7 +67,7 @@ pub fn with_offset(file: &[u8], part: usize, offset: usize) -> File {
 
 /// All that are not large.
 pub fn small() -> Vec<File> {
-    [unsound(), sound(), around_the_example()].concat()
+    [unsound(), sound(), around_the_example(), followed::shows()].concat()
 }
 
 /// Files whose header is not sound.

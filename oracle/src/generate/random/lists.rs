@@ -1,8 +1,11 @@
 //! Lists: a scene and up to 200 packets that update its shapes, one after the other.
+use crate::driver::read;
 use crate::generate::batch::{Batch, Record};
-use crate::generate::drafts::packets::{scene_of_some, some_packets};
+use crate::generate::drafts::noisy;
+use crate::generate::drafts::packets::{Form, scene_of_some, some_packets};
 use crate::generate::fixed::lists::{MOST, enough, listed};
-use crate::request::List;
+use crate::generate::variants::Good;
+use crate::request::{Input, List};
 use crate::rng::Rng;
 use std::ops::RangeInclusive;
 
@@ -20,17 +23,38 @@ const ROUNDS: [(usize, RangeInclusive<u64>, RangeInclusive<u64>); 7] = [
     (20, 2..=63, MOST..=MOST),
 ];
 
+/// Packets that begin and end within a byte, with any bits before and after them.
+const PACKETS: Form = Form {
+    alone,
+    longer,
+    read: |question, packet| read(question, packet.clone()),
+};
+
 pub fn lists(batch: &mut Batch<'_>) {
     for (rounds, positions, updates) in ROUNDS {
         for _ in 0..rounds {
             let scene = scene_of_some(batch.rng, positions.clone());
             let updates = batch.rng.within(updates.clone());
-            let packets = some_packets(batch.rng, &scene, updates, some_lead);
+            let packets = some_packets(batch.rng, &scene, updates, &PACKETS);
             let list = listed(packets);
             let record = some_record(batch.rng, &list);
             batch.list(list, record);
         }
     }
+}
+
+fn alone(rng: &mut Rng, good: &Good) -> Input {
+    let lead = some_lead(rng);
+    good.input(rng, lead)
+}
+
+/// Now and then with more bytes.
+fn longer(rng: &mut Rng, good: &Good) -> Input {
+    let mut input = alone(rng, good);
+    if rng.percent(15) {
+        input.bytes.extend(noisy(rng, 4).bytes());
+    }
+    input
 }
 
 /// Mostly inside the first byte, now and then far from it.

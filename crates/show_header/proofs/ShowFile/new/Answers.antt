@@ -1,4 +1,5 @@
 use mathlib.Core.Path.{refl, sym, ◌∙◌}
+use native.Mathlib.Omega.{arith}
 use Rattle.show_header.proofs.Sound.{sound_if, too_long, not_too_long}
 use Rattle.show_header.proofs.ShowFile.new.Goals as goal
 
@@ -6,7 +7,10 @@ pub returns-then-bytes-gt-BYTES : goal.returns-then-bytes-gt-BYTES
 returns-then-bytes-gt-BYTES c = record { number = sym (too_long _ c.if-bytes-gt-BYTES.true); refuses = refl; opened = tt }
 
 pub invariant_of-result : goal.invariant_of-result
-invariant_of-result c = record { sound = sound_if _ (sym c.is_sound.ensures ∙ c.if-is_sound.true) }
+invariant_of-result c = record {
+  sound = sound_if _ (sym c.is_sound.ensures ∙ c.if-is_sound.true);
+  few = omega (arith, c.if-bytes-gt-BYTES.false);
+}
 
 pub returns-then-is_sound : goal.returns-then-is_sound
 returns-then-is_sound c =
