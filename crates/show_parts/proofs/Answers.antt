@@ -11,6 +11,7 @@ use Rattle.bits.specs.Bits.{bits_at}
 use Rattle.rules.specs.declared.Answer.{Answer}
 use Rattle.rules.specs.declared.Outcome.TheVariants.{Refused}
 use Rattle.rules.specs.Reading.{Reading, is_read}
+use Rattle.rules.specs.Words.{recorded}
 use Rattle.rules.specs.Answer.{answer_of, input_of}
 use Rattle.rules.proofs.Pick.{by_pick}
 use Rattle.rules.proofs.Laws.{never, both}
@@ -150,3 +151,8 @@ module _ (bs : List ℕ) (offset : ℕ) (rec : Bool) (ws : List ℕ) (count : �
 -- a scene that the show has read has at most 63 positions
 pub scene_fits : (file : List ℕ) {r : SceneAnswer} {vs : List ℕ} → SceneAnswered (scene_part (packet file 0)) false [] r vs → r.count ≤ 63
 scene_fits file y = rw (scene_counts (packet file 0) y) (first_many show (packet file 0))
+
+-- with recording off the words are left alone
+pub words_off : {x : Reading (List PositionSyntax)} {a t : List PositionSyntax} {ws vs : List ℕ} {r : GraphAnswer} → GraphAnswered x a false ws r t vs → vs ≡ ws
+unfolding recorded
+words_off y = y.answered.words
