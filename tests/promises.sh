@@ -1,7 +1,7 @@
 #!/usr/bin/env bash
 # No function that a user calls asks anything of its caller, and each promises something. The prover cannot tell: nobody in the
 # repository calls an exported function, so that a `requires` on it would be refused by nothing. The functions are those that
-# docs/DECISIONS.md lists under "What a user calls", and all that are exported.
+# docs/DECISIONS.md lists under "What a user calls", and all that gateway_c exports.
 set -euo pipefail
 cd "$(dirname "$0")/.."
 work=$(mktemp -d)

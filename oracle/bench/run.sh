@@ -1,6 +1,6 @@
 #!/usr/bin/env bash
 # Builds the benchmarks and prints their tables: all rows, or those that hold every given word, as
-# `run.sh update 'recording off'`. The port is the static library as it stands, which build_library of tests/lib/built.sh makes.
+# `run.sh update 'recording off'`. The static libraries are taken as they stand; build_library of tests/lib/built.sh makes them.
 set -euo pipefail
 cd "$(dirname "$0")/../.."
 export CARGO_TARGET_DIR=${CARGO_TARGET_DIR:-$PWD/target/bench}

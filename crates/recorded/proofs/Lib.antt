@@ -1,1 +1,1 @@
-pub mod Record
+pub mod Recorded

@@ -7,7 +7,7 @@
 
 use parser::Parser;
 use position::PositionSyntax;
-use recorded::{Head, Kind, NoRecord, Reading};
+use record::{Head, Kind, NoRecord, Reading};
 use rules::Answer;
 use std::alloc::Global;
 use std::io::{self, Read};
@@ -67,13 +67,13 @@ fn run_fields<R: Read>(reader: &mut R, head: &Head, bytes: &[u8], words: &mut [u
 
 // Whether the next byte of a record is the largest rank of an answer.
 fn is_deepest<R: Read>(reader: &mut R, graph: GraphAnswer) -> bool {
-    recorded::next_rank(reader) == graph.deepest
+    record::next_rank(reader) == graph.deepest
 }
 
 fn run_scene<R: Read>(reader: &mut R, head: &Head, bytes: &[u8], words: &mut [u64]) -> Ran {
     let scene = scene::read_scene(bytes, head.offset(), head.recording(), words);
     let deepest = is_deepest(reader, scene.graph);
-    let n = recorded::next_count(reader);
+    let n = record::next_count(reader);
     let default = [PositionSyntax::default(); 63];
     let same = recorded::same_shapes(reader, scene.shapes, n, default);
     Ran {
@@ -84,7 +84,7 @@ fn run_scene<R: Read>(reader: &mut R, head: &Head, bytes: &[u8], words: &mut [u6
 
 fn run_update<R: Read>(reader: &mut R, head: &Head, bytes: &[u8], words: &mut [u64]) -> Ran {
     let n = head.count();
-    let before = recorded::next_shapes(reader, n);
+    let before = record::next_shapes(reader, n);
     let update = update::graph_update(bytes, head.offset(), head.recording(), words, before, n);
     let deepest = is_deepest(reader, update.graph);
     let same = recorded::same_shapes(reader, update.shapes, n, before);
@@ -95,7 +95,7 @@ fn run_update<R: Read>(reader: &mut R, head: &Head, bytes: &[u8], words: &mut [u
 }
 
 fn run_position<R: Read>(reader: &mut R, head: &Head, bytes: &[u8], words: &mut [u64]) -> Ran {
-    let before = recorded::next_shape(reader);
+    let before = record::next_shape(reader);
     let full = head.count() == 1;
     let position = position_alone::read_position(
         bytes,
@@ -107,13 +107,13 @@ fn run_position<R: Read>(reader: &mut R, head: &Head, bytes: &[u8], words: &mut 
     );
     Ran {
         answer: position.answer,
-        same: recorded::same_shape(position.shape, recorded::next_shape(reader)),
+        same: recorded::same_shape(position.shape, record::next_shape(reader)),
     }
 }
 
 fn run_validation<R: Read>(reader: &mut R, head: &Head) -> Ran {
     let n = head.count();
-    let shapes = recorded::next_shapes(reader, n);
+    let shapes = record::next_shapes(reader, n);
     let graph = validation::validate_graph(shapes, n, head.offset());
     Ran {
         answer: graph.answer,
@@ -150,7 +150,7 @@ fn name_agrees<R: Read>(reader: &mut R, head: &Head, bytes: &mut [u8]) -> Result
 // Whether the text of a show file is as recorded, if there are as many bytes as the file has.
 fn show_agrees<R: Read>(reader: &mut R, head: &Head, bytes: &mut [u8]) -> Result<bool, NoRecord> {
     let file = bytes.get_mut(..head.size()).ok_or(NoRecord)?;
-    let got = recorded::read_bytes(reader, file);
+    let got = record::read_bytes(reader, file);
     let mut text = [0; show::TEXT];
     recorded::clear(&mut text);
     let answer = show::show(file, &mut text);
@@ -160,8 +160,8 @@ fn show_agrees<R: Read>(reader: &mut R, head: &Head, bytes: &mut [u8]) -> Result
 
 // Whether the packet that gives shapes new parents is as recorded, in the bytes that it is lent, if there are as many.
 fn parents_agree<R: Read>(reader: &mut R, head: &Head, bytes: &mut [u8]) -> Result<bool, NoRecord> {
-    let shapes = recorded::next_shapes::<WANTED, R>(reader, head.count());
-    let parents = recorded::next_parents::<WANTED, R>(reader, head.parents());
+    let shapes = record::next_shapes::<WANTED, R>(reader, head.count());
+    let parents = record::next_parents::<WANTED, R>(reader, head.parents());
     let shapes = shapes.get(..head.count()).ok_or(NoRecord)?;
     let parents = parents.get(..head.parents()).ok_or(NoRecord)?;
     let lent = bytes.get_mut(..head.room()).ok_or(NoRecord)?;
@@ -185,7 +185,7 @@ fn reading_agrees<R: Read>(
 ) -> Result<bool, NoRecord> {
     let bytes = bytes.get_mut(..head.size()).ok_or(NoRecord)?;
     let words = words.get_mut(..head.room()).ok_or(NoRecord)?;
-    let got = recorded::read_bytes(reader, bytes);
+    let got = record::read_bytes(reader, bytes);
     recorded::clear(words);
     let ran = match reading {
         Reading::Fields => run_fields(reader, head, bytes, words),
@@ -197,7 +197,7 @@ fn reading_agrees<R: Read>(
     };
     let n = written(head.recording(), ran.answer.fields);
     let same = recorded::is_recorded(reader, words, n);
-    Ok(head.agrees(ran.answer) && ran.same && got == bytes.len() && same)
+    Ok(recorded::answer_agrees(head, ran.answer) && ran.same && got == bytes.len() && same)
 }
 
 // Whether the next record is answered as it says, if there is one more.

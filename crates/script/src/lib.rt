@@ -68,17 +68,17 @@ fn reason(code: Code, number: usize) -> Option<Reason> {
 impl Operation {
     // The next one of the input.
     fn next<R: Read>(input: &mut R) -> Result<Operation, UnknownCode> {
-        let bytes = recorded::next_bytes::<23, R>(input);
-        let code = Code::try_from(recorded::number(&bytes[..1]))?;
+        let bytes = record::next_bytes::<23, R>(input);
+        let code = Code::try_from(record::number(&bytes[..1]))?;
         Ok(Operation {
             code,
-            times: recorded::number(&bytes[1..3]),
+            times: record::number(&bytes[1..3]),
             numbers: [
-                recorded::number(&bytes[3..7]) as usize,
-                recorded::number(&bytes[7..11]) as usize,
-                recorded::number(&bytes[11..15]) as usize,
+                record::number(&bytes[3..7]) as usize,
+                record::number(&bytes[7..11]) as usize,
+                record::number(&bytes[11..15]) as usize,
             ],
-            name: recorded::number(&bytes[15..]),
+            name: record::number(&bytes[15..]),
         })
     }
 

@@ -137,7 +137,7 @@ pub fn digits(value: f64) -> String {
 }
 
 /// A number, its thousands parted by commas.
-fn grouped(number: usize) -> String {
+pub fn grouped(number: usize) -> String {
     match number {
         0..1_000 => number.to_string(),
         _ => format!("{},{:03}", grouped(number / 1_000), number % 1_000),

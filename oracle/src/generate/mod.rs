@@ -2,8 +2,8 @@
 //!
 //! A part is a function that adds requests to a batch. Its folder tells whether what it asks is
 //! `fixed` or `random`, and its module of which kind: `scripts`, `shows`, `lists`, `validations`,
-//! `parents` and `names`; `labels` are scripts too, `graphs` are scenes, updates and validations, and what has
-//! another name is of scenes, updates, positions and metadata. Both folders write their inputs by
+//! `parents` and `names`; `labels` and `reads` are scripts too, `graphs` are scenes, updates and validations,
+//! and what has another name is of scenes, updates, positions and metadata. Both folders write their inputs by
 //! `drafts`, and ask around a good one by `variants`. The sample has parts of its own, made of the
 //! same.
 mod batch;

@@ -12,6 +12,7 @@ use super::fixed::graphs::{changes, scenes, steps, validations};
 use super::fixed::labels::labelled;
 use super::fixed::names::{AMPLE, greatest, length};
 use super::fixed::parents::{broken, corners as corners_of_parents, exactly_and_short};
+use super::fixed::reads;
 use super::fixed::scripts::limits;
 use super::fixed::shows::{filled, small as small_shows};
 use super::fixed::validations::every_list;
@@ -32,7 +33,15 @@ use std::collections::BTreeSet;
 use std::slice;
 
 /// In the order in which they draw from the seed.
-pub const PARTS: [Part; 6] = [scripts, readings, metadata, names, shows, parents];
+pub const PARTS: [Part; 7] = [
+    scripts,
+    reads::few,
+    readings,
+    metadata,
+    names,
+    shows,
+    parents,
+];
 
 /// About how large the records are: of scripts, of the drafts of each reading, of validations, of
 /// metadata, of random shows and of random new parents.

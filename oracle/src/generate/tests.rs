@@ -15,6 +15,7 @@ use crate::request::{List, Question, Request, Shape};
 use crate::rng::Rng;
 use crate::show::{self, part_end};
 use crate::table::{Table, ends};
+use apac::run::{Action, Op};
 use std::collections::{BTreeMap, BTreeSet};
 use std::ops::RangeInclusive;
 use std::sync::LazyLock;
@@ -117,7 +118,7 @@ fn sample_is_bounded() {
     let requests = sample();
     let size = |request| record(request).expect("an answer").len();
     assert!((2_500..=4_000).contains(&requests.len()));
-    assert!(requests.iter().map(size).sum::<usize>() <= 825_000);
+    assert!(requests.iter().map(size).sum::<usize>() <= 840_000);
 }
 
 #[test]
@@ -331,7 +332,8 @@ fn fixed_shows() {
     }
 }
 
-/// What is asked after them stays as it was before there were graphs, shows, lists and new parents.
+/// What is asked after them stays as it was before there were graphs, shows, lists, new parents and single
+/// reads.
 #[test]
 fn some_fixed_parts_take_no_random_numbers() {
     let rng = &mut Rng::new(1);
@@ -339,6 +341,8 @@ fn some_fixed_parts_take_no_random_numbers() {
     fixed::shows::shows(&mut Batch::new(rng));
     fixed::lists::lists(&mut Batch::new(rng));
     fixed::parents::parents(&mut Batch::new(rng));
+    fixed::reads::reads(&mut Batch::new(rng));
+    fixed::reads::few(&mut Batch::new(rng));
     assert_eq!(rng.next(), Rng::new(1).next());
 }
 
@@ -689,4 +693,140 @@ fn parents_above_63_are_refused() {
         pairs.any(|(_, parent)| parent > 63 && (1..=wanted.shapes.len()).contains(&(parent % 64)))
     };
     assert!(answered_by(8).filter(wrapped).count() >= 100);
+}
+
+/// A read that is a script of its own.
+struct Alone<'a> {
+    start: usize,
+    width: usize,
+    bytes: &'a [u8],
+    request: &'a Request,
+}
+
+impl<'a> Alone<'a> {
+    fn new(request: &'a Request) -> Option<Self> {
+        let Request::Call(call) = request else {
+            return None;
+        };
+        let Question::Fields(ops) = &call.question else {
+            return None;
+        };
+        match ops.as_slice() {
+            [op] => Some(Self {
+                start: call.offset as usize,
+                width: taken(op),
+                bytes: &call.bytes,
+                request,
+            }),
+            _ => None,
+        }
+    }
+
+    /// How many bits of the input are after the read, below 0 if some of its own are missing.
+    fn left(&self) -> isize {
+        8 * self.bytes.len() as isize - (self.start + self.width) as isize
+    }
+}
+
+fn taken(op: &Op) -> usize {
+    match op.action {
+        Action::Take(width) => width as usize,
+        action => panic!("not a read: {action:?}"),
+    }
+}
+
+/// Every width from every bit of the first byte and of a later one: eight inputs of each length that has
+/// the read and up to ten bytes more, and of one far longer; one input of each length that doesn't end before
+/// the read and misses some of it.
+#[test]
+fn reads_end_everywhere() {
+    let requests = requests(fixed::reads::reads);
+    let mut times = BTreeMap::new();
+    for read in requests.iter().filter_map(Alone::new) {
+        let left = read.left();
+        let place = (read.width, read.start % 8, read.start < 8);
+        let left = if left > 80 { None } else { Some(left) };
+        *times.entry((place, left)).or_insert(0) += 1;
+    }
+    let mut all = BTreeMap::new();
+    for width in 0..=64 {
+        for (bit, first) in (0..8).flat_map(|bit| [(bit, false), (bit, true)]) {
+            let end = (bit + width) as isize;
+            let lefts = (-(width as isize)..=80).filter(|left| (end + left) % 8 == 0);
+            let ends = lefts.map(|left| (Some(left), if left < 0 { 1 } else { 8 }));
+            for (left, inputs) in ends.chain([(None, 8)]) {
+                all.insert(((width, bit, first), left), inputs);
+            }
+        }
+    }
+    assert!(times == all);
+}
+
+/// Each is refused if it ends behind the input, and recorded else.
+#[test]
+fn reads_are_recorded() {
+    let requests = requests(fixed::reads::reads);
+    for read in requests.iter().filter_map(Alone::new) {
+        let answer = answer(read.request);
+        let ended = (answer.verdict.number, answer.fields.len());
+        let wanted = if read.left() < 0 { (3, 0) } else { (0, 1) };
+        assert_eq!(ended, wanted, "{}", read.request);
+    }
+}
+
+/// The bits of an input at the same place in each of eight, as one number: no two alike, and none of
+/// zeros or of ones only. So one input shows it if a reader takes another bit for one of its own, or takes
+/// it for always the same.
+#[test]
+fn inputs_of_reads_tell_bits_apart() {
+    let requests = requests(fixed::reads::reads);
+    let mut inputs: BTreeMap<_, Vec<&[u8]>> = BTreeMap::new();
+    let near = |read: &Alone<'_>| (0..=80).contains(&read.left());
+    for read in requests.iter().filter_map(Alone::new).filter(near) {
+        let same = inputs.entry((read.start, read.width, read.bytes.len()));
+        same.or_default().push(read.bytes);
+    }
+    for ((_, _, bytes), inputs) in inputs {
+        let bit = |input: &[u8], i: usize| input[i / 8] >> (7 - i % 8) & 1;
+        let at = |i| {
+            inputs
+                .iter()
+                .fold(0, |bits, input| bits << 1 | bit(input, i))
+        };
+        let met: BTreeSet<u8> = (0..8 * bytes).map(at).collect();
+        assert_eq!(met.len(), 8 * bytes);
+        assert!(!met.contains(&0) && !met.contains(&u8::MAX));
+    }
+}
+
+/// Every width, every bit of a byte, and each of both that takes eight bytes to their last bit or nine, with
+/// at most ten bytes after the read and with more.
+#[test]
+fn sample_reads_near_and_far() {
+    let [mut near, mut far] = [BTreeSet::new(), BTreeSet::new()];
+    for request in sample() {
+        let Request::Call(call) = &request else {
+            continue;
+        };
+        // A number that is taken at once is one read.
+        let Question::Fields(ops) = &call.question else {
+            continue;
+        };
+        if !ops.iter().all(|op| matches!(op.action, Action::Take(_))) {
+            continue;
+        }
+        for field in answer(&request).fields {
+            let left = 8 * call.bytes.len() as u64 - field.offset - field.length;
+            let reads = if left <= 80 { &mut near } else { &mut far };
+            reads.insert((field.length, field.offset % 8));
+        }
+    }
+    for reads in [near, far] {
+        let widths: BTreeSet<u64> = reads.iter().map(|read| read.0).collect();
+        assert!(widths.into_iter().eq(0..=64));
+        let bits: BTreeSet<u64> = reads.iter().map(|read| read.1).collect();
+        assert!(bits.into_iter().eq(0..8));
+        let mut long = (57..=64).flat_map(|width| (64 - width..8).map(move |bit| (width, bit)));
+        assert!(long.all(|read| reads.contains(&read)));
+    }
 }

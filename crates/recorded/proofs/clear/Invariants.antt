@@ -1,5 +1,5 @@
 use Rattle.std.proofs.Common.{◌≡◌, take}
-use Rattle.recorded.specs.Record.{blanks}
+use Rattle.recorded.specs.Recorded.{blanks}
 use Rattle.recorded.proofs.clear.Given as goal
 
 -- the places before the index are blank

@@ -8,6 +8,7 @@ pub mod labels;
 pub mod lists;
 pub mod names;
 pub mod parents;
+pub mod reads;
 pub mod scripts;
 mod short;
 pub mod shows;
@@ -16,7 +17,7 @@ pub mod validations;
 use super::Part;
 
 /// In the order in which they draw from the seed.
-pub const PARTS: [Part; 14] = [
+pub const PARTS: [Part; 15] = [
     short::short,
     boundaries::boundaries,
     corners::every_corner,
@@ -25,6 +26,7 @@ pub const PARTS: [Part; 14] = [
     scripts::limits,
     scripts::full_buffers,
     scripts::every_take,
+    reads::reads,
     labels::labels,
     names::every_template,
     names::every_pair,

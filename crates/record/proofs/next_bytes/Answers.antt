@@ -1,0 +1,5 @@
+use Rattle.std.proofs.Common.{rules}
+use Rattle.record.proofs.next_bytes.Goals as goal
+
+pub returns : goal.returns
+returns g c = search rules

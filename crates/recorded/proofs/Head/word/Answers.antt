@@ -1,4 +1,0 @@
-use Rattle.recorded.proofs.Head.word.Goals as goal
-
-pub returns : goal.returns
-returns c = c.number.ensures
