@@ -36,6 +36,13 @@ none_ranked : Ranked []
 none_ranked = (λ i. 0, λ i d. absurd (omega (arith, d.from, d.to)))
 
 -- ---- a refused call leaves the shapes
+library_scene_leaves : Leaves scene_step is_accepted
+unfolding scene_step
+library_scene_leaves p s h = value_unread s (book_scene p).result h
+
+pub scene_leaves : (x : Setting) → Leaves (step_in x scene_step) is_accepted
+scene_leaves x = leaves_in x scene_step library_scene_leaves
+
 library_leaves : Leaves update_step is_accepted
 unfolding update_step
 library_leaves p s h = value_unread s (book_reading p s).result h
@@ -64,6 +71,11 @@ pub update_tells : (x : Setting) (p : Packet) (s : List PositionSyntax) →
     TellsLargest (step_in x update_step p s).told.graph (step_in x update_step p s).left
 unfolding update_step book_reading
 update_tells x p s = tells_in p s (update_step p s) x (reading_tells s (book_reading p s).result (shapes.update_ranked (input p) p.offset (length s) s))
+
+-- so the shapes that an accepted update leaves have ranks, whatever it was handed
+pub accepted_ranked : (x : Setting) (p : Packet) (s : List PositionSyntax) → is_accepted (step_in x update_step p s).told ≡ true →
+    Ranked (step_in x update_step p s).left
+accepted_ranked x p s h = let told = (update_tells x p s).of_read h in (told.0, told.1)
 
 -- ---- a scene declares at most 63 positions, and there are as many shapes after any packets as before
 scene_many : Keeps scene_step (λ l. length l ≤ 63)

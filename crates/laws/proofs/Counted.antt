@@ -10,6 +10,10 @@ use Rattle.bits.specs.Bits.{bits_at}
 use Rattle.rules.specs.Rule.{Rule, done, ends, position_then, end_then, bits_then, skip_then, field_then, set_end_then}
 use Rattle.rules.specs.Reading.{Reading, Input, reading, has_room, inside}
 use Rattle.rules.proofs.Pick.{by_pick}
+use Rattle.std.specs.Prelude as std
+use Rattle.rules.specs.declared.reason.Reason.{Reason}
+use Rattle.parser.specs.declared.Parser.{Parser}
+use Rattle.parser.specs.Met.{Met}
 
 module _ (i : Input) (P : ℕ → Type 0) (one : (n : ℕ) → n < 16384 → has_room i n ≡ true → P (n + 1)) where
   -- after what was counted before and is counted now
@@ -39,3 +43,7 @@ module _ (i : Input) (P : ℕ → Type 0) (one : (n : ℕ) → n < 16384 → has
 -- no reading counts more than 16,384 fields
 pub counts_most : {A : Type 0} (i : Input) (r : Rule A) (p e : ℕ) → 0 + length (reading i r p e 0).fields ≤ 16384
 counts_most i r p e = counted i (λ n. n ≤ 16384) (λ n l _. omega arith) r p e 0 (omega arith)
+
+-- nor does code that meets a rule, on a parser that has not counted more
+pub met_most : {A : Type 0} {r : Rule A} {p q : Parser} {x : std.Result A Reason} → Met r p x q → p.fields ≤ 16384 → q.fields ≤ 16384
+met_most {r = r} {p = p} m h = rw m.gives.fields (counted _ (λ n. n ≤ 16384) (λ n l _. omega arith) r p.position p.end p.fields h)

@@ -1,3 +1,4 @@
 pub mod Lengths
 pub mod Distinct
+pub mod Same
 pub mod Linked

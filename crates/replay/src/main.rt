@@ -58,9 +58,12 @@ struct Ran {
 fn run_fields<R: Read>(reader: &mut R, head: &Head, bytes: &[u8], words: &mut [u64]) -> Ran {
     let mut parser = Parser::new(bytes, words, head.recording(), 0);
     let begun = parser.entry(Ok(()), head.offset());
-    let ended = script::operations(reader, &mut parser, begun, head.count());
+    let outcome = script::operations(reader, &mut parser, begun, head.count());
     Ran {
-        answer: parser.answer(ended),
+        answer: Answer {
+            outcome,
+            ..parser.answer(Ok(()))
+        },
         same: true,
     }
 }

@@ -1,6 +1,12 @@
 // A script of fields: operations of a reading, one after another, as a record of the oracle holds them. Each asks the method of
 // the parser that it names.
+//
+// A script may refuse or stop by any number of 16 bits, also by one that no reading has, and so it comes to an outcome. What comes
+// after the operation that ended it is read, and asks nothing.
 #![tactic(auto)]
+
+ghost use Rattle.std.specs.Prelude.{◌≡◌, ◌≤◌, IfErr};
+ghost use Rattle.rules.specs.Answer.{ended_as};
 
 use parser::Parser;
 use rules::{Outcome, Reason};
@@ -55,14 +61,9 @@ struct Operation {
     name: u64,
 }
 
-// The reason with a number, if one has it and ends a reading as the code says.
-fn reason(code: Code, number: usize) -> Option<Reason> {
-    let short = u16::try_from(number).ok()?;
-    let reason = Reason::try_from(short).ok()?;
-    match (code, Outcome::from(reason)) {
-        (Code::Refuse, Outcome::Refused(_)) | (Code::Stop, Outcome::Stopped(_)) => Some(reason),
-        _ => None,
-    }
+// A number of 16 bits, which all numbers of refusals and stops have.
+fn short(number: usize) -> u16 {
+    number.min(65535) as u16
 }
 
 impl Operation {
@@ -83,7 +84,9 @@ impl Operation {
     }
 
     // Asks the parser once. What no reading asks for is passed over, and shows as a wrong answer.
-    fn step(&self, parser: &mut Parser<'_>) -> Result<(), Reason> {
+    fn step(&self, parser: &mut Parser<'_>) -> Result<(), Outcome>
+        ensures { parser.old.fields ≤ 16384 → parser.new.fields ≤ 16384 }
+    {
         let name = self.name;
         let [first, second, third] = self.numbers;
         match self.code {
@@ -108,17 +111,16 @@ impl Operation {
                 }
             }
             Code::SetEnd => parser.set_end(first.min(LAST_END))?,
-            Code::Refuse | Code::Stop => {
-                if let Some(reason) = reason(self.code, first) {
-                    return Err(reason);
-                }
-            }
+            Code::Refuse => return Err(Outcome::Refused(short(first))),
+            Code::Stop => return Err(Outcome::Stopped(short(first))),
         }
         Ok(())
     }
 
     // Asks as often as it says.
-    fn run(&self, parser: &mut Parser<'_>) -> Result<(), Reason> {
+    fn run(&self, parser: &mut Parser<'_>) -> Result<(), Outcome>
+        ensures { parser.old.fields ≤ 16384 → parser.new.fields ≤ 16384 }
+    {
         for _ in 0..self.times {
             self.step(parser)?;
         }
@@ -126,18 +128,24 @@ impl Operation {
     }
 }
 
-// The operations of a record, of which there are `n`, on a reading that has begun so. All are read, also those after one that
-// ended the reading.
+// The operations of a record, of which there are `n`, on a reading that has begun so, and what it has come to. A reading that has
+// ended stays as it is.
 pub fn operations<R: Read>(
     input: &mut R,
     parser: &mut Parser<'_>,
     begun: Result<(), Reason>,
     n: usize,
-) -> Result<(), Reason> {
-    let mut reading = begun;
+) -> Outcome
+    ensures ended { IfErr begun (λ _. parser.new ≡ parser.old) }
+    ensures told { IfErr begun (λ _. result ≡ ended_as begun) }
+    ensures few { parser.old.fields ≤ 16384 → parser.new.fields ≤ 16384 }
+{
+    let mut reading = Outcome::from(begun);
     for _ in 0..n {
-        if let (Ok(operation), Ok(())) = (Operation::next(input), reading) {
-            reading = operation.run(parser);
+        if let (Ok(operation), Outcome::Read) = (Operation::next(input), reading) {
+            if let Err(outcome) = operation.run(parser) {
+                reading = outcome;
+            }
         }
     }
     reading

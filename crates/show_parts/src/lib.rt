@@ -5,7 +5,7 @@
 // this, so it is asked here of what they answer. An update is read into a copy of the shapes, and counts once that question is met.
 #![tactic(auto)]
 
-ghost use Rattle.std.specs.Prelude.{◌≡◌, ◌*◌, ◌≤◌, ◌<◌, [], false, length, take};
+ghost use Rattle.std.specs.Prelude.{◌≡◌, ◌*◌, ◌≤◌, ◌<◌, [], false, length, take, drop};
 ghost use Rattle.validation.specs.Validation.{GraphAnswered};
 ghost use Rattle.scene.specs.Scene.{SceneAnswered};
 ghost use Rattle.book.specs.Spare.{spare, part_graph};
@@ -75,7 +75,7 @@ pub fn scene_part(
     }
 }
 
-// Part `k`, an update of the first `count` shapes, from its bit `offset` on.
+// Part `k`, an update of the first `count` shapes, from its bit `offset` on. The others stay as they are.
 pub fn update_part(
     file: &ShowFile<'_>,
     k: usize,
@@ -87,7 +87,8 @@ pub fn update_part(
 ) -> GraphAnswer
     requires part { k < part_count file.now.bytes.now }
     requires few { count ≤ 63 }
-    ensures { GraphAnswered
+    ensures others { drop count shapes.new ≡ drop count shapes.old }
+    ensures answered { GraphAnswered
         (update_part (packet_of (part_of file.now.bytes.now k) offset recording words.old) (take count shapes.old))
         (take count shapes.old) recording words.old result (take count shapes.new) words.new }
 {
@@ -117,7 +118,8 @@ pub fn show_update(
 ) -> GraphAnswer
     requires part { k < part_count file.now.bytes.now }
     requires few { count ≤ 63 }
-    ensures { GraphAnswered
+    ensures others { drop count shapes.new ≡ drop count shapes.old }
+    ensures answered { GraphAnswered
         (update_part (packet file.now.bytes.now k) (take count shapes.old))
         (take count shapes.old) false [] result (take count shapes.new) [] }
 {

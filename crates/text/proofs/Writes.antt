@@ -1,17 +1,17 @@
 -- Texts written one after the other.
-use Prim.Native.Nat.{ℕ, ◌+◌, ◌/◌, ◌≤◌, ◌<◌}
+use Prim.Native.Nat.{ℕ, ◌+◌, ◌/◌, ◌%◌, ◌^◌, ◌≤◌, ◌<◌}
 use mathlib.Core.Path.{◌≡◌, refl, sym, ap, ◌∙◌}
 use mathlib.Core.List.{List, [], ◌∷◌, ◌++◌}
 use native.Mathlib.Omega.{arith}
 use native.Mathlib.Numerals.{add-one}
 use borrow.Author.Tests.{lt-ltb, le-ltb}
-use lib.ListN.{length, get_or, drop}
+use lib.ListN.{length, get_or, set, drop}
 use lib.Seq.{drop-cons}
 use Rattle.std.specs.Borrow.{MutBor}
 use Rattle.text.specs.declared.Writer.{Writer}
 use Rattle.text.specs.Writer.{Fits, Wrote, Lent}
-use Rattle.text.specs.Text.{decimal, Put, Lined}
-use Rattle.text.proofs.Decimal.{tens}
+use Rattle.text.specs.Text.{digit, decimal, Put, Lined}
+use Rattle.text.proofs.Decimal.{tens, decimal_last}
 use Rattle.text.proofs.Puts.{put_both, put_none, room_first, room_next}
 use Rattle.text.proofs.Lines.{lined}
 
@@ -62,13 +62,20 @@ module _ {whole : List ℕ} {p q : Writer} where
     pub byte_left : {u : Writer} → Wrote (get_or l k 0 ∷ []) q u → Left whole p (drop (k + 1) l) u
     byte_left y = less_left (get_or l k 0 ∷ []) (drop (k + 1) l) (rw byte_here at x) y
 
--- A number: what stands before its last digit.
-module _ (n : ℕ) {p q : Writer} where
-  pub few_tens : n < 10 → q ≡ p → Wrote (tens n) p q
-  few_tens h e = rw (lt-ltb n 10 h) (wrote_none e)
+-- A number: what stands before its last digit, and that digit, for which there is room.
+module _ (n : ℕ) {before : List ℕ} {at to : ℕ} {after : List ℕ} where
+  pub few_tens : n < 10 → to ≡ at → after ≡ before → Put before at (tens n) to after
+  few_tens h e f = rw (lt-ltb n 10 h, e, f) put_none
 
-  pub more_tens : {u : Writer} → 10 ≤ n → Wrote (decimal (n / 10)) p u → q ≡ u → Wrote (tens n) p q
-  more_tens h x e = rw (le-ltb n 10 h, e) x
+  pub more_tens : {r : ℕ} {l : List ℕ} → 10 ≤ n → Put before at (decimal (n / 10)) r l → to ≡ r → after ≡ l → Put before at (tens n) to after
+  more_tens h p e f = rw (le-ltb n 10 h, e, f) p
+
+  module _ (fits : n < 2 ^ 64) (p : Put before at (tens n) to after) where
+    pub digit_room : at + length (decimal n) ≤ length before → to < length after
+    digit_room h = let e = room_next (tens n) (digit (n % 10) ∷ []) p (rw (decimal_last n fits) at h) in omega (arith, e)
+
+    pub digit_last : Put before at (decimal n) (to + 1) (set after to (digit (n % 10)))
+    digit_last = rw (decimal_last n fits) (put_both p (record { place = refl; bytes = refl }))
 
 -- From the lent bytes: there is room for a text that is no longer than they are, and it is put at their beginning.
 module _ {out : MutBor (List ℕ)} {p : Writer} (l : Lent out p) where

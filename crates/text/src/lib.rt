@@ -4,8 +4,8 @@
 
 pub mod table;
 
-ghost use Rattle.std.specs.Prelude.{◌≡◌, ◌≤◌, [], ◌∷◌, ◌++◌, length};
-ghost use Rattle.text.specs.Text.{decimal, newline};
+ghost use Rattle.std.specs.Prelude.{◌≡◌, ◌+◌, ◌≤◌, [], ◌∷◌, ◌++◌, length};
+ghost use Rattle.text.specs.Text.{decimal, newline, Put};
 
 use rules::Outcome;
 
@@ -68,10 +68,7 @@ impl<'a> Writer<'a> {
         requires { Fits (decimal n) self.old }
         ensures { Wrote (decimal n) self.old self.new }
     {
-        if n >= 10 {
-            self.put_decimal(n / 10);
-        }
-        self.put_byte(b'0' + (n % 10) as u8);
+        self.written = put_digits(self.out, self.written, n);
     }
 
     // Puts a word and the number after it.
@@ -100,4 +97,17 @@ impl<'a> Writer<'a> {
         self.put_number(first, m);
         self.put_last(last, n);
     }
+}
+
+// The digits of a number, from a place on, and the place after them. It is lent the bytes alone, so that a writer can stay in registers.
+fn put_digits(out: &mut [u8], at: usize, n: u64) -> usize
+    requires { at + length (decimal n) ≤ length out.old }
+    ensures { Put out.old at (decimal n) result out.new }
+{
+    let mut last = at;
+    if n >= 10 {
+        last = put_digits(out, at, n / 10);
+    }
+    out[last] = b'0' + (n % 10) as u8;
+    last + 1
 }

@@ -7,4 +7,4 @@ returns-then-not-is_read c = scene_unread _ _ _ c.show_scene-scene.ensures (sym 
 
 pub returns : goal.returns
 returns c =
-    update_answered _ _ _ c.show_scene-scene.ensures (sym c.if-not-is_read.ensures) c.shapes_before.ensures c.update_part-graph.ensures
+    update_answered _ _ _ c.show_scene-scene.ensures (sym c.if-not-is_read.ensures) c.shapes_before.ensures c.update_part-graph.ensures.answered
