@@ -20,7 +20,7 @@ use Rattle.laws.proofs.Stays.{entry_place}
 use Rattle.laws.proofs.Free.{enough}
 use Rattle.book.specs.Step.{After, Leaves, Keeps}
 use Rattle.book.specs.Spare.{part_reading}
-use Rattle.book.specs.Book.{Packet, packet_of, input, Given, is_accepted, step_of, book_scene, book_reading, scene_step, update_step, Setting, show, step_in, scene_part, update_part, book_first, book_shapes, Ranked}
+use Rattle.book.specs.Book.{Packet, packet_of, input, Given, given, is_accepted, step_of, book_scene, book_reading, scene_step, update_step, Setting, show, step_in, scene_part, update_part, book_first, book_shapes, Ranked}
 use Rattle.book.proofs.Steps.{kept}
 use Rattle.book.proofs.Settled.{settled_reads, tells_in, leaves_in, keeps_in}
 use Rattle.book.proofs.Shapes as shapes
@@ -51,11 +51,11 @@ pub update_leaves : (x : Setting) → Leaves (step_in x update_step) is_accepted
 update_leaves x = leaves_in x update_step library_leaves
 
 -- ---- the shapes have ranks after an accepted call, and so after any
-scene_ranked : Keeps scene_step Ranked
+pub scene_ranked : Keeps scene_step Ranked
 unfolding scene_step book_scene
 scene_ranked p s h = left_by Ranked s (book_scene p).result h (shapes.scene_ranked (input p) p.offset)
 
-update_ranked : Keeps update_step Ranked
+pub update_ranked : Keeps update_step Ranked
 unfolding update_step book_reading
 update_ranked p s h = left_by Ranked s (book_reading p s).result h (shapes.update_ranked (input p) p.offset (length s) s)
 
@@ -85,7 +85,7 @@ scene_many p s h = left_by (λ l. length l ≤ 63) s (book_scene p).result h (sh
 pub first_many : (x : Setting) (p : Packet) → length (book_first x p) ≤ 63
 first_many x p = keeps_in x scene_step scene_many p [] (omega arith)
 
-update_many : (n : ℕ) → Keeps update_step (λ l. length l ≡ n)
+pub update_many : (n : ℕ) → Keeps update_step (λ l. length l ≡ n)
 unfolding update_step book_reading
 update_many n p s h =
     left_by (λ l. length l ≡ n) s (book_reading p s).result h (λ l e. shapes.update_many (input p) p.offset (length s) s l e ∙ h)
@@ -115,6 +115,15 @@ scene_place p = entry_place (input p) _ p.offset _
 pub update_place : (p : Packet) (s : List PositionSyntax) → (book_reading p s).position ≤ 8 * length p.bytes
 unfolding book_reading
 update_place p s = entry_place (input p) _ p.offset _
+
+-- ---- what the steps tell is what is told of their readings
+pub scene_told : (p : Packet) (s : List PositionSyntax) → (scene_step p s).told ≡ given p.recording (book_scene p)
+unfolding scene_step
+scene_told p s = refl
+
+pub update_told : (p : Packet) (s : List PositionSyntax) → (update_step p s).told ≡ given p.recording (book_reading p s)
+unfolding update_step
+update_told p s = refl
 
 -- ---- what the show's steps give is what the readings of its parts give
 pub scene_part_step : (p : Packet) (s : List PositionSyntax) → step_in show scene_step p s ≡ step_of p.recording (scene_part p) s

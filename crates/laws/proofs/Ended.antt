@@ -1,4 +1,5 @@
--- Law (b): a reading that has ended stays as it is, whatever rule comes after it; and so does a parser.
+-- Law (b): a reading that has ended stays as it is, whatever rule comes after it; and what code leaves that meets a rule and one after it
+-- is what its first call left, where that ended.
 use Prim.Native.Nat.{ℕ}
 use mathlib.Core.Path.{◌≡◌, sym, ◌∙◌}
 use Rattle.std.specs.Prelude as std

@@ -14,7 +14,7 @@ use Rattle.text.proofs.Rows.{every, wide, at_row}
 use Rattle.numbers.specs.Meaning.{meanings, up_to_bar, meaning}
 
 -- every row has 59 bytes
-all_wide : every (λ _. wide) 0 meanings ≡ true
+pub all_wide : every (λ _. wide) 0 meanings ≡ true
 unfolding meanings ascii
 all_wide = refl
 
