@@ -15,7 +15,9 @@ const INDICES: u64 = 8192;
 
 // Whether all indices of a word are in the ranges of its rows.
 fn in_ranges(word: u64) -> bool
-    ensures { result ≡ (in_range (block_row word) (first_of word) (second_of word) && in_range (leaf_row word) (third_of word) (fourth_of word)) }
+    ensures { result ≡
+        (in_range (block_row word) (first_of word) (second_of word) &&
+        in_range (leaf_row word) (third_of word) (fourth_of word)) }
 {
     let block = name_table::block_row(word);
     let leaf = name_table::leaf_row(word);
