@@ -143,7 +143,7 @@ expect 0 "" "$work/missing" metadata "$((end + 1))" <"$work/greatest"
 expect 0 "" "$work/23" part 0 <"$work/greatest"
 expect 0 "" "$work/23" part 1 < <(zeros 65537)
 expect 0 "" "$work/24" part 1 < <(zeros 65536)
-# All that the program takes for it is 8 MiB.
+# The program as a whole takes less than 8 MiB for it.
 (ulimit -v 8192 && exec crates/scene_fields/out/scene_fields scene "$((end - 6))" <"$work/greatest") | cmp - "$work/last"
 for words in scene "metadata 1" "part 0"; do
   for bytes in $((greatest + 1)) 100000000; do

@@ -39,7 +39,7 @@ pub fn read_input<R: Read>(reader: &mut R, bytes: &mut [u8]) -> Result<usize, Fa
 }
 
 // What the reader gives up to its end, or the first `most` bytes of it. Their room is asked for at once, and one byte more: a list that
-// grew as it was read into would need three times as much.
+// grew as it was read into would need twice as much.
 pub fn first_bytes<R: Read + Drop>(alloc: Global, reader: R, most: u64) -> io::Result<Vec<u8>>
     ensures { IfOk result (λ v. IfSome (R.remaining reader) (λ bytes. v.items ≡ take most bytes)) }
 {
