@@ -38,9 +38,19 @@ pub fn read_input<R: Read>(reader: &mut R, bytes: &mut [u8]) -> Result<usize, Fa
     Ok(length)
 }
 
-// What the reader gives up to its end, or the first `most` bytes of it. Their room is asked for at once, and one byte more: a list that
-// grew as it was read into would need twice as much.
+// What the reader gives up to its end, or the first `most` bytes of it, in a list that grows as it is read into: a short input is read
+// whole, however great `most` is.
 pub fn first_bytes<R: Read + Drop>(alloc: Global, reader: R, most: u64) -> io::Result<Vec<u8>>
+    ensures { IfOk result (λ v. IfSome (R.remaining reader) (λ bytes. v.items ≡ take most bytes)) }
+{
+    let mut list = Vec::new(alloc);
+    reader.take(most).read_to_end(&mut list)?;
+    Ok(list)
+}
+
+// The same, with room for `most` bytes and one more asked for at once, and an error where there is none: a list that grew would need
+// twice as much for a long input.
+pub fn reserved_bytes<R: Read + Drop>(alloc: Global, reader: R, most: u64) -> io::Result<Vec<u8>>
     ensures { IfOk result (λ v. IfSome (R.remaining reader) (λ bytes. v.items ≡ take most bytes)) }
 {
     let mut bytes = Vec::new(alloc);
@@ -90,6 +100,27 @@ mod tests {
     #[test]
     fn reads_no_more_than_asked_for(rt: HostRuntime) -> Result<(), Fail> {
         let bytes = first_bytes(rt.alloc(), b"longer".as_slice(), 4)?;
+        assert_eq!(rt; bytes.as_slice(), b"long".as_slice());
+        Ok(())
+    }
+
+    #[test]
+    fn reads_what_there_is_below_any_most(rt: HostRuntime) -> Result<(), Fail> {
+        let bytes = first_bytes(rt.alloc(), b"short".as_slice(), u64::MAX)?;
+        assert_eq!(rt; bytes.as_slice(), b"short".as_slice());
+        Ok(())
+    }
+
+    #[test]
+    fn reserves_for_what_there_is(rt: HostRuntime) -> Result<(), Fail> {
+        let bytes = reserved_bytes(rt.alloc(), b"short".as_slice(), 6)?;
+        assert_eq!(rt; bytes.as_slice(), b"short".as_slice());
+        Ok(())
+    }
+
+    #[test]
+    fn reserves_for_no_more_than_asked_for(rt: HostRuntime) -> Result<(), Fail> {
+        let bytes = reserved_bytes(rt.alloc(), b"longer".as_slice(), 4)?;
         assert_eq!(rt; bytes.as_slice(), b"long".as_slice());
         Ok(())
     }

@@ -134,7 +134,7 @@ fn asked<R: Env + AllocGlobal>(rt: &R) -> Result<Option<Request>, AllocError> {
 fn run<R: Env + Input + Print + AllocGlobal>(rt: &R) -> Result<(), Failure> {
     let request = asked(rt)?.ok_or(Failure::Usage)?;
     // One byte more, so that a longer input is seen to be longer.
-    let file = input::first_bytes(rt.alloc(), rt.reader(), MOST + 1).map_err(Failure::Input)?;
+    let file = input::reserved_bytes(rt.alloc(), rt.reader(), MOST + 1).map_err(Failure::Input)?;
     if MOST < file.len() as u64 {
         return Err(Failure::TooLong);
     }

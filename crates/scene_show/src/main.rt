@@ -55,7 +55,7 @@ fn run<R: Env + Input + Print + AllocGlobal>(rt: &R) -> Result<(), Failure> {
         return Err(Failure::Usage);
     }
     // One byte more, so that a longer file is seen to be longer.
-    let file = input::first_bytes(rt.alloc(), rt.reader(), MOST + 1).map_err(Failure::Input)?;
+    let file = input::reserved_bytes(rt.alloc(), rt.reader(), MOST + 1).map_err(Failure::Input)?;
     print(rt, &file).map_err(Failure::Output)
 }
 

@@ -62,13 +62,21 @@ module _ {whole : List ℕ} {p q : Writer} where
     pub byte_left : {u : Writer} → Wrote (get_or l k 0 ∷ []) q u → Left whole p (drop (k + 1) l) u
     byte_left y = less_left (get_or l k 0 ∷ []) (drop (k + 1) l) (rw byte_here at x) y
 
--- A number: what stands before its last digit, and that digit, for which there is room.
-module _ (n : ℕ) {before : List ℕ} {at to : ℕ} {after : List ℕ} where
-  pub few_tens : n < 10 → to ≡ at → after ≡ before → Put before at (tens n) to after
-  few_tens h e f = rw (lt-ltb n 10 h, e, f) put_none
+-- A number: what stands before its last digit.
+module _ (n : ℕ) {p q : Writer} where
+  pub few_tens : n < 10 → q ≡ p → Wrote (tens n) p q
+  few_tens h e = rw (lt-ltb n 10 h) (wrote_none e)
 
-  pub more_tens : {r : ℕ} {l : List ℕ} → 10 ≤ n → Put before at (decimal (n / 10)) r l → to ≡ r → after ≡ l → Put before at (tens n) to after
-  more_tens h p e f = rw (le-ltb n 10 h, e, f) p
+  pub more_tens : {u : Writer} → 10 ≤ n → Wrote (decimal (n / 10)) p u → q ≡ u → Wrote (tens n) p q
+  more_tens h x e = rw (le-ltb n 10 h, e) x
+
+-- The same of bytes without a writer, and the last digit, for which there is room.
+module _ (n : ℕ) {before : List ℕ} {at to : ℕ} {after : List ℕ} where
+  pub put_few_tens : n < 10 → to ≡ at → after ≡ before → Put before at (tens n) to after
+  put_few_tens h e f = rw (lt-ltb n 10 h, e, f) put_none
+
+  pub put_more_tens : {r : ℕ} {l : List ℕ} → 10 ≤ n → Put before at (decimal (n / 10)) r l → to ≡ r → after ≡ l → Put before at (tens n) to after
+  put_more_tens h p e f = rw (le-ltb n 10 h, e, f) p
 
   module _ (fits : n < 2 ^ 64) (p : Put before at (tens n) to after) where
     pub digit_room : at + length (decimal n) ≤ length before → to < length after
